@@ -94,7 +94,7 @@ SKIP_LIST = Contender("Java ConcurrentSkipListMap, no numbers", ("java", "-cp", 
 
 def build_program():
     """Proves and builds the program where it is missing or old; ends with its status where that fails."""
-    status = subprocess.run([os.path.join(TOP, "ks"), "run", "bplus", "coupling", "4"],
+    status = subprocess.run([os.path.join(TOP, "ks"), "prove"],
                             stdin=subprocess.DEVNULL, stdout=subprocess.DEVNULL).returncode
     if status != 0:
         raise SystemExit(status)

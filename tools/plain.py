@@ -5,6 +5,8 @@ import re
 MODULUS = 1 << 64
 GREATEST = (1 << 128) - 1
 NUMBERS = re.compile(r"(0|[1-9][0-9]*)( (0|[1-9][0-9]*))*")
+# Why a line of a run is refused.
+NO_RUN = "from it on the lines are no run of the script"
 # How many pairs a part of a scan has at most.
 MOST_PAIRS = 16
 

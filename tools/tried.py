@@ -8,7 +8,7 @@ TOP = os.path.dirname(os.path.dirname(os.path.realpath(__file__)))
 
 
 class Tries:
-    """Counts tries, and names those that fail."""
+    """Counts tries, and names those that fail, and what was left out."""
 
     def __init__(self, name):
         self.name, self.count, self.failed = name, 0, 0
@@ -19,6 +19,10 @@ class Tries:
         if wanted != found:
             self.failed += 1
             print(f"{self.name}: {what}:\n  wanted {wanted!r}\n  found  {found!r}", flush=True)
+
+    def skip(self, what):
+        """Says what is left out, and why. The gate fails at it."""
+        print(f"{self.name}: not tried: {what}", flush=True)
 
     def end(self, of="tries"):
         """Says how many there were, and ends with status 1 where one failed."""
@@ -40,7 +44,7 @@ def has_full():
 
 def program(words=None):
     """The built program: the one that these words name, of the command line if none are given, else the one that the gate built,
-    else the one that ./ks builds."""
+    else the one that `ks prove` builds."""
     words = sys.argv[1:] if words is None else words
     if words:
         if not os.access(words[0], os.X_OK):
@@ -48,7 +52,7 @@ def program(words=None):
         return os.path.abspath(words[0])
     built = f"{TOP}/crates/ks_main/out/ks_main"
     if not os.access(built, os.X_OK):
-        built_by = subprocess.run([f"{TOP}/ks", "run", "list", "coupling", "4"], stdin=subprocess.DEVNULL, stdout=subprocess.DEVNULL)
+        built_by = subprocess.run([f"{TOP}/ks", "prove"], stdin=subprocess.DEVNULL, stdout=subprocess.DEVNULL)
         if built_by.returncode:
             sys.exit(f"{os.path.basename(sys.argv[0])}: there is no program to try")
     return built

@@ -1,46 +1,58 @@
-//! Finds the two static libraries that this crate links: `libks_c.a`, the dictionary, and `liblibc_c.a`, the part of
-//! the toolchain by which the dictionary takes memory.
+//! Finds the static library that this crate links.
+//!
+//! It is `libguttertide.a`, in the folder that `GUTTERTIDE_LIB_DIR` names or in the crate's own `lib/TARGET`; or the two that
+//! it is made of, in a clone of the repository or in the folder of the variable: `libks_c.a`, the dictionary, and
+//! `liblibc_c.a`, the part of the toolchain by which it takes memory.
 
 use std::env;
 use std::path::{Path, PathBuf};
 use std::process::Command;
 
-/// Names a folder that has `libks_c.a`, and perhaps `liblibc_c.a`.
+/// Names a folder that has `libguttertide.a`, or `libks_c.a` and perhaps `liblibc_c.a`.
 const VARIABLE: &str = "GUTTERTIDE_LIB_DIR";
 
 fn main() {
     println!("cargo::rerun-if-env-changed={VARIABLE}");
     println!("cargo::rerun-if-changed=build.rs");
-    for found in [dictionary(), memory()] {
-        match found {
-            Ok((folder, name)) => link(&folder, name),
-            Err(message) => println!("cargo::error={message}"),
+    // Built over the model, or for documentation alone, the crate links nothing.
+    if env::var_os("CARGO_CFG_GUTTERTIDE_MODEL").is_some() || env::var_os("DOCS_RS").is_some() {
+        return;
+    }
+    match folders().iter().find_map(|folder| libraries(folder)) {
+        Some(found) => found.iter().for_each(|(folder, name)| link(folder, name)),
+        None => println!("cargo::error={}", missing()),
+    }
+}
+
+/// Where the library may be. If the variable is set, only there.
+fn folders() -> Vec<PathBuf> {
+    match given() {
+        Some(folder) => vec![folder],
+        None => {
+            let target = env::var("TARGET").unwrap_or_default();
+            vec![Path::new("lib").join(target), PathBuf::from("../../crates/ks_c/out")]
         }
     }
 }
 
-/// The folder of `libks_c.a`: the one that the variable names, or else the one where `rt lib` leaves it in the
-/// repository.
-fn dictionary() -> Result<(PathBuf, &'static str), String> {
-    let folder = given().unwrap_or_else(|| PathBuf::from("../../crates/ks_c/out"));
-    holding(&folder, "ks_c").ok_or_else(|| {
-        format!(
-            "there is no libks_c.a in {}. In a clone of the repository the command `rt lib`, in the folder \
-             crates/ks_c, proves and builds it; where it is elsewhere, set {VARIABLE} to its folder",
-            folder.display()
-        )
-    })
+/// The libraries of a folder, each with its folder, if they are there.
+fn libraries(folder: &Path) -> Option<Vec<(PathBuf, &'static str)>> {
+    if let Some(whole) = holding(folder, "guttertide") {
+        return Some(vec![whole]);
+    }
+    let dictionary = holding(folder, "ks_c")?;
+    let memory = holding(folder, "libc_c").or_else(|| holding(&toolchain()?.join("c"), "libc_c"))?;
+    Some(vec![dictionary, memory])
 }
 
-/// The folder of `liblibc_c.a`: the one that the variable names, or else the one of the toolchain.
-fn memory() -> Result<(PathBuf, &'static str), String> {
-    let folders = given().into_iter().chain(toolchain().map(|toolchain| toolchain.join("c")));
-    folders.into_iter().find_map(|folder| holding(&folder, "libc_c")).ok_or_else(|| {
-        format!(
-            "there is no liblibc_c.a: it is in the folder c of the toolchain. Put the toolchain's `rt` on the path, \
-             or copy the file beside libks_c.a and set {VARIABLE} to their folder"
-        )
-    })
+fn missing() -> String {
+    let folders: Vec<String> = folders().iter().map(|folder| folder.display().to_string()).collect();
+    format!(
+        "there is no libguttertide.a, nor libks_c.a and liblibc_c.a, in {}. In a clone of the repository outside/build \
+         proves and builds the library, with the toolchain's `rt` on the path; where it is elsewhere, set {VARIABLE} to its \
+         folder",
+        folders.join(" or ")
+    )
 }
 
 /// The folder that the variable names, if it is set.

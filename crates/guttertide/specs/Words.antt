@@ -16,8 +16,8 @@ pub use Rattle.ks_shape.specs.Compacts.{HasFreed, HasLeftBy, IsTightIn, WasUndis
 pub use Rattle.ks_shape.specs.Does.{OnlyDels, OnlyFills, OnlySearches}
 pub use Rattle.ks_shape.specs.Tries.{IsDoneIn, MayTell, PutMayTell}
 pub use Rattle.ks_shape.specs.Parts.{DonePart, IsDonePart}
-pub use Rattle.ks_scan.specs.Ends.{HasFoundFirst, HasFoundLast}
-pub use Rattle.ks_scan.specs.Scan.{IsDoneScan, NumbersAscend}
+pub use Rattle.ks_dictionary.specs.Ends.{HasFoundFirst, HasFoundLast}
+pub use Rattle.ks_dictionary.specs.Scan.{IsDoneScan, NumbersAscend}
 pub use Rattle.ks_lines.specs.Scan.{IsScanOf}
 pub use Rattle.ks_shape.specs.Upkeep.{AreNewLed, HasTwoFree, IsTidyIn, LeadsNew, LeavesTidy}
 -- of a dictionary that has ended

@@ -1,10 +1,3 @@
-pub mod Asking
-pub mod Askings
-pub mod Loading
-pub mod Due
-pub mod Drafted
 pub mod Instances
-pub mod Plain
-pub mod Counts
-pub mod Fit
-pub mod Ended
+pub mod Runs
+pub mod Whys

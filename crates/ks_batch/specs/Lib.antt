@@ -1,10 +1,2 @@
-pub mod Pairings
-pub mod Words
-pub mod PairingWords
-pub mod Message
-pub mod Serve
-pub mod Stop
-pub mod Make
-pub mod Summed
-pub mod Parts
+pub mod Over
 pub mod Leaves

@@ -8,7 +8,7 @@ static CALLERS: [Row; 1] = [Row {
     words: &[RUN],
     input: &[Times(65, b"caller\n")],
     status: 2,
-    err: b"line 65 refused\n",
+    err: b"line 65 refused\nit is one caller more than the version of the script allows\n",
     ..SERVED
 }];
 

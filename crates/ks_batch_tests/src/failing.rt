@@ -189,8 +189,18 @@ fn a_byte_at_a_time_changes_no_output(rt: HostRuntime) -> Result<(), Wrong> {
 /// Words and inputs, what is said of them on the error output, and the status. Nothing is printed.
 const SAID: [(&str, &[u8], &[u8], u8); 3] = [
     ("run list link 64", b"", USAGE, 1),
-    (RUN, b"caller\nput 1\n", b"line 2 refused\n", 2),
-    ("check", b"caller\n", b"line 2 refused\n", 2),
+    (
+        RUN,
+        b"caller\nput 1\n",
+        b"line 2 refused\na word is missing at its end\n",
+        2,
+    ),
+    (
+        "check",
+        b"caller\n",
+        b"line 2 refused\nthe text ends before it\n",
+        2,
+    ),
 ];
 
 /// Runs the program on each row, with an error output that fails after each number of single bytes that is less than all.

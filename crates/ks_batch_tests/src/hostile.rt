@@ -5,15 +5,42 @@ use ks_whole_runs::{RUN, Row, SERVED, Wrong, check_each, refuse_each, run_each};
 
 /// Texts that are no script, and what is said of them.
 const NO_SCRIPTS: [(&[u8], &[u8]); 9] = [
-    (b"caller\nput  1 2\n", b"line 2 refused\n"),
-    (b"caller\nput 1\n", b"line 2 refused\n"),
-    (b"caller\nget 1 \n", b"line 2 refused\n"),
-    (b"caller\n\n", b"line 2 refused\n"),
-    (b"caller\nget -1\n", b"line 2 refused\n"),
-    (b"caller\nget 00\n", b"line 2 refused\n"),
-    (b"caller\nget 1\r\n", b"line 2 refused\n"),
-    (b"CALLER\n", b"line 1 refused\n"),
-    (b"\0", b"line 1 refused\n"),
+    (
+        b"caller\nput  1 2\n",
+        b"line 2 refused\na word is no number: only digits, no leading zero, one space before it\n",
+    ),
+    (
+        b"caller\nput 1\n",
+        b"line 2 refused\na word is missing at its end\n",
+    ),
+    (
+        b"caller\nget 1 \n",
+        b"line 2 refused\na word or a space is too many at its end\n",
+    ),
+    (
+        b"caller\n\n",
+        b"line 2 refused\nno line begins with its first word\n",
+    ),
+    (
+        b"caller\nget -1\n",
+        b"line 2 refused\na word is no number: only digits, no leading zero, one space before it\n",
+    ),
+    (
+        b"caller\nget 00\n",
+        b"line 2 refused\na word is no number: only digits, no leading zero, one space before it\n",
+    ),
+    (
+        b"caller\nget 1\r\n",
+        b"line 2 refused\na word is no number: only digits, no leading zero, one space before it\n",
+    ),
+    (
+        b"CALLER\n",
+        b"line 1 refused\nno line begins with its first word\n",
+    ),
+    (
+        b"\0",
+        b"line 1 refused\nno line begins with its first word\n",
+    ),
 ];
 
 /// Texts of a script and a run of it, and what is said of them, with the status.
@@ -21,12 +48,12 @@ const RUNS: [(&[u8], &[u8], u8); 8] = [
     (b"run\nmap\nend\n", b"legal 0\n", 0),
     (
         b"caller\nget 1\nrun\ncaller 0\n0 none\nmap\n",
-        b"line 7 refused\n",
+        b"line 7 refused\nfrom it on the lines are no run of the script\n",
         2,
     ),
     (
         b"caller\nget 1\nrun\ncaller 0\n0 none\nmap\nend\nx\n",
-        b"line 8 refused\n",
+        b"line 8 refused\nfrom it on the lines are no run of the script\n",
         2,
     ),
     (
@@ -70,7 +97,7 @@ static EMPTY_LINES: [Row; 1] = [Row {
     words: &[RUN],
     input: &[Times(16777216, b"\n")],
     status: 2,
-    err: b"line 1 refused\n",
+    err: b"line 1 refused\nno line begins with its first word\n",
     ..SERVED
 }];
 
@@ -83,7 +110,7 @@ static CALLS: [Row; 1] = [Row {
     words: &[RUN],
     input: &[Bytes(b"caller\n"), Times(1048577, b"get 0\n")],
     status: 2,
-    err: b"line 1048578 refused\n",
+    err: b"line 1048578 refused\nit is one call more than the 1048576 that a script may have\n",
     ..SERVED
 }];
 

@@ -23,11 +23,21 @@ const REFUSALS: [(&str, &[u8], &[u8], u8); 17] = [
     (
         RUN,
         b"caller\nput 1 18446744073709551616\n",
-        b"line 2 refused\n",
+        b"line 2 refused\na key or a value is too great, or PARTS is not 1 to 64\n",
         2,
     ),
-    (RUN, b"caller\nput 01 5\n", b"line 2 refused\n", 2),
-    (RUN, b"put 1 2\ncaller\n", b"line 1 refused\n", 2),
+    (
+        RUN,
+        b"caller\nput 01 5\n",
+        b"line 2 refused\na word is no number: only digits, no leading zero, one space before it\n",
+        2,
+    ),
+    (
+        RUN,
+        b"put 1 2\ncaller\n",
+        b"line 1 refused\nit comes before the first caller\n",
+        2,
+    ),
     ("run bplus coupling 3", b"", USAGE, 1),
     ("run bplus coupling 04", b"", USAGE, 1),
     ("run bplus coupling 1048577", b"caller\n", USAGE, 1),
@@ -61,7 +71,7 @@ const CHECKS: [(&[u8], &[u8], u8); 4] = [
         b"wrong 2\n",
         6,
     ),
-    (b"caller\n", b"line 2 refused\n", 2),
+    (b"caller\n", b"line 2 refused\nthe text ends before it\n", 2),
 ];
 
 #[test]

@@ -5,7 +5,7 @@ use Rattle.ks_places.specs.Golden.{golden_place}
 use Rattle.ks_history.specs.Done.{coupling, give_up, link_move}
 use Rattle.ks_c.specs.declared.answers.Answer.{Answer}
 use Rattle.ks_c.specs.declared.caller.Caller.{Caller}
-use Rattle.ks_c.specs.declared.caller.Caller.TheVariants.{BLinkTree, GiveUpTree, BTree, LinkHashTable}
+use Rattle.ks_c.specs.declared.caller.Caller.TheVariants.{BLinkTree, GiveUpTree, BTree, LinkHashTable, BLinkWideTree, GiveUpWideTree}
 use Rattle.ks_c.specs.declared.handle.Handle.{Handle}
 use Rattle.ks_c.specs.declared.tries.Call.{Call}
 use Rattle.ks_c.specs.Made.{IsNewAt, IsReadyOver, Makes}
@@ -16,6 +16,8 @@ IsReady (BLinkTree c) = IsReadyOver c
 IsReady (GiveUpTree c) = IsReadyOver c
 IsReady (BTree c) = IsReadyOver c
 IsReady (LinkHashTable c) = IsReadyOver c
+IsReady (BLinkWideTree c) = IsReadyOver c
+IsReady (GiveUpWideTree c) = IsReadyOver c
 
 -- the caller tried the call at the key, by the technique of its structure and at the place that this has for the key; it
 -- still is one of the same dictionary; and C gets its result
@@ -24,6 +26,8 @@ Called call key (BLinkTree c) after code out = (e : _) × (after ≡ BLinkTree e
 Called call key (GiveUpTree c) after code out = (e : _) × (after ≡ GiveUpTree e) × Makes give_up call key c e code out
 Called call key (BTree c) after code out = (e : _) × (after ≡ BTree e) × Makes coupling call key c e code out
 Called call key (LinkHashTable c) after code out = (e : _) × (after ≡ LinkHashTable e) × Makes link_move call (golden_place key) c e code out
+Called call key (BLinkWideTree c) after code out = (e : _) × (after ≡ BLinkWideTree e) × Makes link_move call key c e code out
+Called call key (GiveUpWideTree c) after code out = (e : _) × (after ≡ GiveUpWideTree e) × Makes give_up call key c e code out
 
 -- a handle is closed, or its caller is ready
 abbrev pub IsHandle : Option Caller → Type 0
@@ -41,7 +45,7 @@ AreHandles hs = All (λ h. IsHandle h.inside) hs
 
 -- the word by which C chooses a structure
 abbrev pub IsStructure : ℕ → Type 0
-IsStructure word = word ≤ 3
+IsStructure word = word ≤ 5
 
 -- this is the caller numbered i of a new dictionary: of the structure that the word chooses, with this table, and as many
 -- nodes and callers
@@ -50,6 +54,8 @@ IsNewCaller word t nodes callers i (BLinkTree c) = (word ≡ 0) × IsNewAt t nod
 IsNewCaller word t nodes callers i (GiveUpTree c) = (word ≡ 1) × IsNewAt t nodes callers i c
 IsNewCaller word t nodes callers i (BTree c) = (word ≡ 2) × IsNewAt t nodes callers i c
 IsNewCaller word t nodes callers i (LinkHashTable c) = (word ≡ 3) × IsNewAt t nodes callers i c
+IsNewCaller word t nodes callers i (BLinkWideTree c) = (word ≡ 4) × IsNewAt t nodes callers i c
+IsNewCaller word t nodes callers i (GiveUpWideTree c) = (word ≡ 5) × IsNewAt t nodes callers i c
 
 -- these are all callers of one new dictionary, in their order
 pub record AreNewCallers (word nodes callers : ℕ) (cs : List Caller) : Type 0 where

@@ -4,13 +4,13 @@ ghost use Rattle.ks_c.specs.Tells.{Tells, TellsFound, TellsLater, TellsPut, whol
 
 use ks_shape::{Later, Numbered, PutLater};
 
-/// Done: the key had no value, or the part ended at the last key of the scan. Of `ks_c_open` and `ks_c_close`: done.
+/// Done: the key had no value, or the part ended at the last key of the scan. Of an open and a close: done.
 pub const NOTHING: u32 = 0;
 /// Done: the key had a value.
 pub const VALUE: u32 = 1;
-/// No room for the key, and no node was found free.
+/// No room for the key, and too few nodes were found free.
 pub const FULL: u32 = 2;
-/// Another caller held a node on the search path.
+/// Another caller held a node that the search came to.
 pub const BUSY: u32 = 3;
 /// No search for the key can reach a node any more that was on its path, and another caller changed it during the call.
 pub const MOVED: u32 = 4;

@@ -4,15 +4,22 @@ ghost use Rattle.ks_c.specs.Calls.{Called, IsReady};
 ghost use Rattle.ks_c.specs.Scans.{Scanned};
 
 use crate::answers::Answer;
-use crate::listing::{Entry, Listing, NO_SCANS};
+use crate::listing::{Entry, Listing, UNFIT};
 use crate::scans::{scan_along_links, scan_by_giving_up};
 use crate::tries::{Call, CallerOf, along_links, by_coupling, by_giving_up};
 use ks_boxed::Boxed;
 use ks_bplus::BNode;
 use ks_flow::{Link, Tree};
-use ks_hash::HNode;
 use ks_linked::WithLink;
 use ks_node::WithRange;
+use ks_places::{Golden, Plain};
+use ks_wide::WNode;
+
+/// A leaf of 16 pairs, or a branch of 64 children.
+pub type WideTreeNode = WNode<Plain, 16, 64>;
+
+/// A bucket of 32 pairs, or a branch of 64 children.
+pub type WideHashNode = WNode<Golden, 32, 64>;
 
 /// One caller of a dictionary, whose nodes and technique are those of its structure.
 #[derive(Drop)]
@@ -24,7 +31,11 @@ pub enum Caller {
     /// A B+ tree by lock coupling.
     BTree(CallerOf<Boxed<BNode>, Tree>),
     /// A hash table along links.
-    LinkHashTable(CallerOf<WithLink<HNode>, Link>),
+    LinkHashTable(CallerOf<WithLink<WideHashNode>, Link>),
+    /// A B-link tree of wide branches.
+    BLinkWideTree(CallerOf<WithLink<WideTreeNode>, Link>),
+    /// A B+ tree of wide branches, by giving up.
+    GiveUpWideTree(CallerOf<WithRange<WideTreeNode>, Tree>),
 }
 
 /// A caller over some nodes, as C keeps it.
@@ -69,13 +80,33 @@ impl Kept for CallerOf<Boxed<BNode>, Tree> {
     }
 }
 
-impl Kept for CallerOf<WithLink<HNode>, Link> {
+impl Kept for CallerOf<WithLink<WideHashNode>, Link> {
     ghost use Rattle.ks_c.specs.declared.caller.Caller.TheVariants.{LinkHashTable};
 
     ghost kept = { λ c. LinkHashTable c };
 
     fn keep(self) -> Caller {
         Caller::LinkHashTable(self)
+    }
+}
+
+impl Kept for CallerOf<WithLink<WideTreeNode>, Link> {
+    ghost use Rattle.ks_c.specs.declared.caller.Caller.TheVariants.{BLinkWideTree};
+
+    ghost kept = { λ c. BLinkWideTree c };
+
+    fn keep(self) -> Caller {
+        Caller::BLinkWideTree(self)
+    }
+}
+
+impl Kept for CallerOf<WithRange<WideTreeNode>, Tree> {
+    ghost use Rattle.ks_c.specs.declared.caller.Caller.TheVariants.{GiveUpWideTree};
+
+    ghost kept = { λ c. GiveUpWideTree c };
+
+    fn keep(self) -> Caller {
+        Caller::GiveUpWideTree(self)
     }
 }
 
@@ -90,10 +121,12 @@ impl Caller {
             Caller::GiveUpTree(caller) => by_giving_up(caller, key, call, out),
             Caller::BTree(caller) => by_coupling(caller, key, call, out),
             Caller::LinkHashTable(caller) => along_links(caller, key, call, out),
+            Caller::BLinkWideTree(caller) => along_links(caller, key, call, out),
+            Caller::GiveUpWideTree(caller) => by_giving_up(caller, key, call, out),
         }
     }
 
-    /// Lists a part of a scan, writes its result to `entries` and `out`, and returns its code: `NO_SCANS` if the structure has
+    /// Lists a part of a scan, writes its result to `entries` and `out`, and returns its code: `UNFIT` if the structure has
     /// no scans.
     pub fn scan(&mut self, low: u64, last: u64, entries: &mut [Entry], out: &mut Listing) -> u32
         requires ready { IsReady self.old }
@@ -104,8 +137,10 @@ impl Caller {
         match self {
             Caller::BLinkTree(caller) => scan_along_links(caller, low, last, entries, out),
             Caller::GiveUpTree(caller) => scan_by_giving_up(caller, low, last, entries, out),
-            Caller::BTree(_) => NO_SCANS,
-            Caller::LinkHashTable(_) => NO_SCANS,
+            Caller::BTree(_) => UNFIT,
+            Caller::LinkHashTable(_) => UNFIT,
+            Caller::BLinkWideTree(caller) => scan_along_links(caller, low, last, entries, out),
+            Caller::GiveUpWideTree(caller) => scan_by_giving_up(caller, low, last, entries, out),
         }
     }
 }

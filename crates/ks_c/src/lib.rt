@@ -1,9 +1,9 @@
 //! A dictionary for C: non-blocking calls, on numbers and handles.
 //!
 //! C has a handle for each caller of a dictionary (`Handle`): null, or a caller in a block of its own, of one of the
-//! structures that C may choose (`Caller`). A call takes the caller out of its handle, makes its call by the technique of
-//! its structure and puts it back, so a call sees whether its handle is closed. `outside/guttertide.h` declares the
-//! functions and says what a caller must keep.
+//! structures that C may choose (`Caller`). A call borrows the caller behind its handle and makes its call by the technique
+//! of its structure. Only an open and a close write a handle, and only they are passed an allocator. `outside/guttertide.h`
+//! declares the functions and says what a caller must keep.
 #![tactic(auto)]
 
 ghost use Rattle.std.specs.Prelude.{◌≡◌, ◌<◌, ◌≤◌, length};
@@ -14,7 +14,9 @@ ghost use Rattle.ks_c.specs.declared.tries.Call.TheVariants.{Add, Del, Get, Put,
 
 mod answers;
 mod caller;
+mod fit;
 mod handle;
+mod kin;
 mod life;
 mod listing;
 mod loose;
@@ -24,27 +26,31 @@ mod tries;
 pub use answers::Answer;
 use answers::{CLOSED, value_of};
 pub use caller::Caller;
+pub use fit::fits_threads;
 pub use handle::{Handle, Opaque};
+pub use kin::meet;
 use listing::{BAD_SPAN, NO_ROOM};
 pub use listing::{Entry, Listing};
-use std::alloc::Global;
-use std::mem;
 use tries::Call;
 pub use tries::CallerOf;
 
 /// Makes a call through a handle, writes its result to `out`, and returns its code: `CLOSED` if the handle is not open.
-fn call(alloc: Global, caller: &mut Handle, key: u64, call: Call, out: &mut Answer) -> u32
+fn call(caller: &mut Handle, key: u64, call: Call, out: &mut Answer) -> u32
     requires { IsHandle caller.old.inside }
     ensures { HasCalled call key caller.old.inside caller.new.inside result out.new }
 {
-    match mem::replace(caller, Handle::none()).into_box(alloc) {
+    match caller.lend() {
         None => CLOSED,
-        Some(mut inside) => {
-            let code = inside.call(key, call, out);
-            *caller = Handle::of(inside);
-            code
-        }
+        Some(inside) => inside.call(key, call, out),
     }
+}
+
+/// The version of this library: 65536 times the first number, 256 times the second one, and the third.
+#[unsafe(no_mangle)]
+pub extern "C" fn guttertide_c_version() -> u32
+    ensures { result ≡ 512 }
+{
+    512
 }
 
 /// Finds the value of a key. Like the next four it returns a code:
@@ -53,18 +59,17 @@ fn call(alloc: Global, caller: &mut Handle, key: u64, call: Call, out: &mut Answ
 /// - `BUSY`, `MOVED` or `FAR`: the call was put off, and is not in the history.
 /// - `CLOSED`: the handle is not open, and stays so.
 #[unsafe(no_mangle)]
-pub extern "C" fn ks_c_get(alloc: Global, caller: &mut Handle, key: u64, out: &mut Answer) -> u32
+pub extern "C" fn guttertide_c_get(caller: &mut Handle, key: u64, out: &mut Answer) -> u32
     requires { IsHandle caller.old.inside }
     ensures { HasCalled Get key caller.old.inside caller.new.inside result out.new }
 {
-    call(alloc, caller, key, Call::Get, out)
+    call(caller, key, Call::Get, out)
 }
 
 /// Sets the value of a key. `out` has the one before. Also returns `FULL`: then `out` has the number of the call, and the map
 /// is as before.
 #[unsafe(no_mangle)]
-pub extern "C" fn ks_c_put(
-    alloc: Global,
+pub extern "C" fn guttertide_c_put(
     caller: &mut Handle,
     key: u64,
     low: u64,
@@ -75,13 +80,12 @@ pub extern "C" fn ks_c_put(
     ensures { HasCalled (Put (whole low high)) key caller.old.inside caller.new.inside result out.new }
 {
     let value = value_of(low, high);
-    call(alloc, caller, key, Call::Put { value }, out)
+    call(caller, key, Call::Put { value }, out)
 }
 
-/// Sets the value of a key that has none. If the key has one, that stays, and is in `out`. Also returns `FULL`, as `ks_c_put`.
+/// Sets the value of a key that has none. If the key has one, that stays, and is in `out`. Also returns `FULL`, as a put.
 #[unsafe(no_mangle)]
-pub extern "C" fn ks_c_add(
-    alloc: Global,
+pub extern "C" fn guttertide_c_add(
     caller: &mut Handle,
     key: u64,
     low: u64,
@@ -92,13 +96,12 @@ pub extern "C" fn ks_c_add(
     ensures { HasCalled (Add (whole low high)) key caller.old.inside caller.new.inside result out.new }
 {
     let value = value_of(low, high);
-    call(alloc, caller, key, Call::Add { value }, out)
+    call(caller, key, Call::Add { value }, out)
 }
 
 /// Sets the value of a key to the new one if and only if it is the old one. `out` has the value that the key had.
 #[unsafe(no_mangle)]
-pub extern "C" fn ks_c_swap(
-    alloc: Global,
+pub extern "C" fn guttertide_c_swap(
     caller: &mut Handle,
     key: u64,
     old_low: u64,
@@ -113,40 +116,29 @@ pub extern "C" fn ks_c_swap(
 {
     let old = value_of(old_low, old_high);
     let new = value_of(new_low, new_high);
-    call(alloc, caller, key, Call::Swap { old, new }, out)
+    call(caller, key, Call::Swap { old, new }, out)
 }
 
 /// Deletes a key. `out` has the value that it had.
 #[unsafe(no_mangle)]
-pub extern "C" fn ks_c_del(alloc: Global, caller: &mut Handle, key: u64, out: &mut Answer) -> u32
+pub extern "C" fn guttertide_c_del(caller: &mut Handle, key: u64, out: &mut Answer) -> u32
     requires { IsHandle caller.old.inside }
     ensures { HasCalled Del key caller.old.inside caller.new.inside result out.new }
 {
-    call(alloc, caller, key, Call::Del, out)
+    call(caller, key, Call::Del, out)
 }
 
 /// Lists a part of a scan through a handle, writes its result to `entries` and `out`, and returns its code: `CLOSED` if the
 /// handle is not open.
-fn scan(
-    alloc: Global,
-    caller: &mut Handle,
-    low: u64,
-    last: u64,
-    entries: &mut [Entry],
-    out: &mut Listing,
-) -> u32
+fn scan(caller: &mut Handle, low: u64, last: u64, entries: &mut [Entry], out: &mut Listing) -> u32
     requires handle { IsHandle caller.old.inside }
     requires span { low ≤ last }
     requires room { 16 ≤ length entries.old }
     ensures { HasScanned low last caller.old.inside caller.new.inside entries.old entries.new result out.new }
 {
-    match mem::replace(caller, Handle::none()).into_box(alloc) {
+    match caller.lend() {
         None => CLOSED,
-        Some(mut inside) => {
-            let code = inside.scan(low, last, entries, out);
-            *caller = Handle::of(inside);
-            code
-        }
+        Some(inside) => inside.scan(low, last, entries, out),
     }
 }
 
@@ -159,12 +151,11 @@ fn scan(
 /// - `BAD_SPAN`: `low` is above `last`.
 /// - `NO_ROOM`: there are fewer than 16 entries, into which each part fits.
 /// - `CLOSED`: the handle is not open.
-/// - `NO_SCANS`: the structure has no scans.
+/// - `UNFIT`: the structure has no scans.
 ///
 /// With all codes but the first two all entries stay.
 #[unsafe(no_mangle)]
-pub extern "C" fn ks_c_scan(
-    alloc: Global,
+pub extern "C" fn guttertide_c_scan(
     caller: &mut Handle,
     low: u64,
     last: u64,
@@ -185,5 +176,5 @@ pub extern "C" fn ks_c_scan(
     if entries.len() < 16 {
         return NO_ROOM;
     }
-    scan(alloc, caller, low, last, entries, out)
+    scan(caller, low, last, entries, out)
 }

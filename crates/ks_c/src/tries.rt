@@ -6,11 +6,13 @@ ghost use Rattle.ks_arena.specs.Of.{IsEmptyPassOf};
 ghost use Rattle.ks_c.specs.Made.{Makes};
 
 use crate::answers::{Answer, tell, tell_put};
+use ks_arena::laws::reuse_law;
 use ks_arena::{Arena, Pass};
 use ks_flow::{Discipline, Link, Tree};
 use ks_gate::NoGate;
 use ks_node::{Linked, Node, Ranged, Unlinked};
 use ks_places::Placing;
+use ks_shape::tries_law;
 use std::alloc::Global;
 use std::sync::Arc;
 
@@ -29,11 +31,36 @@ pub enum Call {
     Del,
 }
 
-/// One caller of a dictionary over nodes `N`: the dictionary, which it shares with the other callers, and its pass.
+/// Words that nobody uses, as many as a cache line has.
+#[derive(Clone, Copy)]
+struct Apart {
+    words: [u64; 8],
+}
+
+/// One caller of a dictionary over nodes `N`: the dictionary, which it shares with the other callers, and its pass. Those of
+/// two callers share no cache line of 128 bytes.
 #[derive(Drop)]
 pub struct CallerOf<N: Node, D: Discipline> {
+    before: Apart,
     pub arena: Arc<Arena<N, D>, Global>,
     pub pass: Pass<N, D>,
+    after: Apart,
+}
+
+impl<N: Node, D: Discipline> CallerOf<N, D> {
+    /// The caller of a dictionary that has this pass.
+    pub fn new(arena: Arc<Arena<N, D>, Global>, pass: Pass<N, D>) -> CallerOf<N, D>
+        ensures arena { arc_value result.arena ≡ arc_value arena }
+        ensures pass { result.pass ≡ pass }
+    {
+        let apart = Apart { words: [0; 8] };
+        CallerOf {
+            before: apart,
+            arena,
+            pass,
+            after: apart,
+        }
+    }
 }
 
 /// Makes a call along links, writes its result to `out`, and returns its code.
@@ -46,6 +73,8 @@ pub fn along_links<N: Linked>(
     requires { IsEmptyPassOf (arc_value caller.old.arena) caller.old.pass }
     ensures { Makes link_move call (N.Places.place_of key) caller.old caller.new result out.new }
 {
+    reuse_law::<Link>();
+    tries_law();
     let place = N::Places::place(key);
     match call {
         Call::Get => tell(
@@ -81,6 +110,8 @@ pub fn by_giving_up<N: Ranged + Unlinked>(
     requires { IsEmptyPassOf (arc_value caller.old.arena) caller.old.pass }
     ensures { Makes give_up call (N.Places.place_of key) caller.old caller.new result out.new }
 {
+    reuse_law::<Tree>();
+    tries_law();
     let place = N::Places::place(key);
     match call {
         Call::Get => tell(
@@ -116,6 +147,8 @@ pub fn by_coupling<N: Unlinked>(
     requires { IsEmptyPassOf (arc_value caller.old.arena) caller.old.pass }
     ensures { Makes coupling call (N.Places.place_of key) caller.old caller.new result out.new }
 {
+    reuse_law::<Tree>();
+    tries_law();
     let place = N::Places::place(key);
     match call {
         Call::Get => tell(

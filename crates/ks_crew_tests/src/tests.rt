@@ -1,60 +1,77 @@
-ghost use Rattle.std.specs.Prelude.{length, map, ◌≤◌, All, IfOk, false};
+ghost use Rattle.std.specs.Prelude.{◌≡◌, ◌≤◌, ◌<◌, length, All, IfOk, OnOk, false};
+ghost use Rattle.ks_lines.specs.declared.Line.TheVariants.{Call};
 ghost use Rattle.ks_lines.specs.Lines.{IsServedLine};
 ghost use Rattle.ks_lines.specs.Asked.{AreServedLines, IsLine};
 
 use ks_coupling::Coupling;
 use ks_crews::LONG;
-use ks_dictionary::{Aiding, AtOneKey, serve_callers};
 use ks_gate::{Meet, NoGate, Point};
 use ks_history::{Op, Reply};
-use ks_lines::{Line, Said};
+use ks_lines::{Aiding, Line, Setting};
 use ks_list::ListNode;
+use ks_script::{Calls, Replies, Script};
+use ks_serving::{AtOneKey, serve_callers};
 use std::alloc::{AllocError, Global};
 use std::test::Fail;
 
-/// The calls of one caller, at two keys of its own.
-fn script(alloc: Global, key: u64) -> Result<Vec<Line>, AllocError>
-    ensures { IfOk result (λ lines. All (λ line. IsLine line × IsServedLine false false line) lines.items) }
+/// Puts a call at one key behind the other lines of a caller.
+fn ask(lines: &mut Calls, op: Op) -> Result<(), AllocError>
+    requires before { All (λ line. IsLine line × IsServedLine false false line) lines.old }
+    requires line { IsLine (Call op) × IsServedLine false false (Call op) }
+    ensures { OnOk result (All (λ line. IsLine line × IsServedLine false false line) lines.new) }
 {
-    Ok(vec![in alloc;
-        Line::Call(Op::Put(key, 10)),
-        Line::Call(Op::Add(key, 15)),
-        Line::Call(Op::Add(key ^ 64, 20)),
-        Line::Call(Op::Get(key)),
-        Line::Call(Op::Swap(key, 15, 25)),
-        Line::Call(Op::Swap(key, 10, 30)),
-        Line::Call(Op::Put(key, 40)),
-        Line::Call(Op::Del(key ^ 64)),
-    ]?)
+    lines.push(Line::Call(op))?;
+    Ok(())
+}
+
+/// The calls of one caller, at two keys of its own.
+fn script(alloc: Global, key: u64) -> Result<Calls, AllocError>
+    ensures { IfOk result (λ lines. All (λ line. IsLine line × IsServedLine false false line) lines) }
+{
+    let mut lines = Calls::new(alloc);
+    ask(&mut lines, Op::Put(key, 10))?;
+    ask(&mut lines, Op::Add(key, 15))?;
+    ask(&mut lines, Op::Add(key ^ 64, 20))?;
+    ask(&mut lines, Op::Get(key))?;
+    ask(&mut lines, Op::Swap(key, 15, 25))?;
+    ask(&mut lines, Op::Swap(key, 10, 30))?;
+    ask(&mut lines, Op::Put(key, 40))?;
+    ask(&mut lines, Op::Del(key ^ 64))?;
+    Ok(lines)
 }
 
 /// The scripts of four callers.
-fn four(alloc: Global) -> Result<Vec<Vec<Line>>, AllocError>
-    ensures few { IfOk result (λ scripts. length scripts.items ≤ 4) }
-    ensures served { IfOk result (λ scripts. AreServedLines false false (map (λ v. v.items) scripts.items)) }
+fn four(alloc: Global) -> Result<Script, AllocError>
+    ensures few { IfOk result (λ script. length script ≤ 4) }
+    ensures served { IfOk result (λ script. AreServedLines false false script) }
 {
-    Ok(vec![in alloc;
+    let callers = vec![in alloc;
         script(alloc, 0)?,
         script(alloc, 1)?,
         script(alloc, 2)?,
         script(alloc, 3)?,
-    ]?)
+    ]?;
+    Ok(Script { callers })
 }
 
 /// The number and the reply that are said of a line, or `None` if it is a scan.
-fn reply(said: &Said) -> Option<(u64, Option<u128>)> {
-    match said {
-        Said::Call(number, Reply::Value(value)) => Some((*number, Some(*value))),
-        Said::Call(number, _) => Some((*number, None)),
-        Said::Scan(_, _) => None,
+fn reply(said: &Replies, at: usize) -> Option<(u64, Option<u128>)>
+    requires { at < length said.now }
+{
+    match said.scan_at(at) {
+        Some(_) => None,
+        None => match said.call_at(at) {
+            (number, Reply::Value(value)) => Some((number, Some(value))),
+            (number, _) => Some((number, None)),
+        },
     }
 }
 
 /// Whether what is said of a caller's lines has these values, and numbers that ascend, none of which was seen before.
-fn ascend(seen: &mut [bool; 32], lines: &[Said], values: &[Option<u128>]) -> bool {
+fn ascend(seen: &mut [bool; 32], lines: &Replies, values: &[Option<u128>]) -> bool {
     let mut least = 0;
-    for (at, line) in lines.iter().enumerate() {
-        let Some((number, value)) = reply(line) else {
+    for at in 0..lines.len() {
+        let Some((number, value)) = reply(lines, at) else {
             return false;
         };
         if number < least || number >= 32 || values.get(at) != Some(&value) {
@@ -70,6 +87,18 @@ fn ascend(seen: &mut [bool; 32], lines: &[Said], values: &[Option<u128>]) -> boo
     lines.len() == values.len()
 }
 
+/// Four nodes, and this number of workers.
+fn setting(workers: u32) -> Setting
+    requires { (1 ≤ workers) × (workers ≤ 64) }
+    ensures { result.nodes ≡ 4 }
+{
+    Setting {
+        nodes: 4,
+        workers,
+        aiding: Aiding::Guides,
+    }
+}
+
 #[test]
 fn four_callers_are_served_at_once(rt: HostRuntime) -> Result<(), Fail> {
     let alloc = rt.alloc();
@@ -77,14 +106,12 @@ fn four_callers_are_served_at_once(rt: HostRuntime) -> Result<(), Fail> {
     let told = serve_callers::<ListNode, Coupling, AtOneKey, HostRuntime, NoGate>(
         &rt,
         alloc,
-        4,
-        scripts,
-        64,
-        Aiding::Guides,
         &NoGate,
         &AtOneKey,
+        setting(64),
+        scripts,
     )?;
-    assert!(rt; told.lines.len() == 4);
+    assert!(rt; told.printed.callers.len() == 4);
     let values = [
         None,
         Some(10),
@@ -96,12 +123,12 @@ fn four_callers_are_served_at_once(rt: HostRuntime) -> Result<(), Fail> {
         Some(20),
     ];
     let mut seen = [false; 32];
-    for lines in told.lines.iter() {
-        assert!(rt; ascend(&mut seen, lines.as_slice(), &values));
+    for lines in told.printed.callers.iter() {
+        assert!(rt; ascend(&mut seen, lines, &values));
     }
     assert!(rt; seen == [true; 32]);
-    assert!(rt; told.pairs.len() == 4);
-    for (key, entry) in told.pairs.iter().enumerate() {
+    assert!(rt; told.printed.pairs.len() == 4);
+    for (key, entry) in told.printed.pairs.iter().enumerate() {
         assert!(rt; entry.0 == key as u64 && entry.1 == 40);
     }
     Ok(())
@@ -110,32 +137,36 @@ fn four_callers_are_served_at_once(rt: HostRuntime) -> Result<(), Fail> {
 #[test]
 fn nobody_is_served(rt: HostRuntime) -> Result<(), Fail> {
     let alloc = rt.alloc();
+    let script = Script {
+        callers: Vec::new(alloc),
+    };
     let told = serve_callers::<ListNode, Coupling, AtOneKey, HostRuntime, NoGate>(
         &rt,
         alloc,
-        4,
-        Vec::new(alloc),
-        1,
-        Aiding::Guides,
         &NoGate,
         &AtOneKey,
+        setting(1),
+        script,
     )?;
-    assert!(rt; told.lines.is_empty() && told.pairs.is_empty());
+    assert!(rt; told.printed.callers.is_empty() && told.printed.pairs.is_empty());
     Ok(())
 }
 
 /// A get of each of two callers.
-fn two(alloc: Global) -> Result<Vec<Vec<Line>>, AllocError>
-    ensures few { IfOk result (λ scripts. length scripts.items ≤ 4) }
-    ensures served { IfOk result (λ scripts. AreServedLines false false (map (λ v. v.items) scripts.items)) }
+fn two(alloc: Global) -> Result<Script, AllocError>
+    ensures few { IfOk result (λ script. length script ≤ 4) }
+    ensures served { IfOk result (λ script. AreServedLines false false script) }
 {
-    Ok(vec![in alloc; one_get(alloc, 0)?, one_get(alloc, 1)?]?)
+    let callers = vec![in alloc; one_get(alloc, 0)?, one_get(alloc, 1)?]?;
+    Ok(Script { callers })
 }
 
-fn one_get(alloc: Global, key: u64) -> Result<Vec<Line>, AllocError>
-    ensures { IfOk result (λ lines. All (λ line. IsLine line × IsServedLine false false line) lines.items) }
+fn one_get(alloc: Global, key: u64) -> Result<Calls, AllocError>
+    ensures { IfOk result (λ lines. All (λ line. IsLine line × IsServedLine false false line) lines) }
 {
-    Ok(vec![in alloc; Line::Call(Op::Get(key))]?)
+    let mut lines = Calls::new(alloc);
+    ask(&mut lines, Op::Get(key))?;
+    Ok(lines)
 }
 
 /// Caller 0 is stopped, once its get is decided and the root released, until caller 1 has decided its own: so neither waits for
@@ -148,17 +179,15 @@ fn callers_run_beside_each_other(rt: HostRuntime) -> Result<(), Fail> {
     let told = serve_callers::<ListNode, Coupling, AtOneKey, HostRuntime, Meet>(
         &rt,
         alloc,
-        4,
-        scripts,
-        2,
-        Aiding::Guides,
         &gate,
         &AtOneKey,
+        setting(2),
+        scripts,
     )?;
     assert!(rt; !gate.failed());
-    assert!(rt; told.lines.len() == 2);
-    assert!(rt; told.lines[0].len() == 1 && told.lines[1].len() == 1);
-    assert!(rt; reply(&told.lines[0][0]) == Some((0, None)));
-    assert!(rt; reply(&told.lines[1][0]) == Some((1, None)));
+    assert!(rt; told.printed.callers.len() == 2);
+    assert!(rt; told.printed.callers[0].len() == 1 && told.printed.callers[1].len() == 1);
+    assert!(rt; reply(&told.printed.callers[0], 0) == Some((0, None)));
+    assert!(rt; reply(&told.printed.callers[1], 0) == Some((1, None)));
     Ok(())
 }

@@ -7,7 +7,7 @@ use Rattle.std.proofs.lemmas.List.{map-append, take_more, take_more_set, drop-se
 use Rattle.std.proofs.lemmas.List.Edits.{length-swap, swapped_from_swap}
 use Rattle.std.proofs.lemmas.List.Elements.{All-contains, All-push}
 use Rattle.std.proofs.lemmas.List.Sorted.{IsPermutation-keeps, IsPermutation-sym, Contains-permutation}
-use Rattle.std.proofs.Math.Seq.{drop-cons}
+use Rattle.std.proofs.Math.Seq.{drop-cons, take-append_seam}
 use mathlib.Core.Logic.{dite}
 use native.Mathlib.Decide.{ℕ_discrete}
 use Rattle.ks_keysets.specs.declared.NodeState.{NodeState}
@@ -15,7 +15,14 @@ use Rattle.ks_keysets.specs.Record.{IsPlace, top}
 use Rattle.ks_keysets.specs.Keyset.{IsFound, here, nowhere}
 use Rattle.ks_history.specs.Served.{IsListing}
 use Rattle.ks_arena.specs.Ended.{AreFound}
-use Rattle.ks_dictionary.specs.Called.{keyed}
+
+-- a vector whose elements were all written through a slice
+pub written : {X : Type 0} (n : ℕ) (xs ys : List X) → n ≡ length xs → length ys ≡ length xs → take n (ys ++ drop (length ys) xs) ≡ ys
+written n xs ys is same = ap (λ k. take k (ys ++ drop (length ys) xs)) (is ∙ sym same) ∙ take-append_seam ys (drop (length ys) xs)
+
+-- an entry with the key of its place
+abbrev pub keyed : (ℕ → ℕ) → ℕ × ℕ → ℕ × ℕ
+keyed f z = (f z.0, z.1)
 
 -- one entry more
 pub keyed_more : (f : ℕ → ℕ) (xs ys : List (ℕ × ℕ)) (i key : ℕ) → i < length xs → length ys ≡ length xs → key ≡ f (get_or ys i (0, 0)).0 →

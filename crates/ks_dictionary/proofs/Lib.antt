@@ -1,8 +1,5 @@
-pub mod Calling
-pub mod Joined
+pub mod Finds
 pub mod Keyed
+pub mod Numbers
+pub mod Rows
 pub mod Stored
-pub mod Staffed
-pub mod Replies
-pub mod Reserved
-pub mod Spread

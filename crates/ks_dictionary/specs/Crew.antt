@@ -1,23 +1,10 @@
 -- All passes of a dictionary, and its notes.
-use Rattle.std.specs.Prelude.{ℕ, ◌≡◌, ◌<◌, List, [], length, slice_index_or}
-use Rattle.atomic_table.specs.Seated.{TableId}
-use Rattle.ks_keysets.specs.declared.Change.{Change}
-use Rattle.ks_keysets.specs.declared.Frame.{Frame}
-use Rattle.ks_keysets.specs.declared.NodeState.{NodeState}
+use Rattle.std.specs.Prelude.{ℕ, ◌≡◌, ◌<◌, List, length, slice_index_or}
 use Rattle.ks_arena.specs.declared.held.Note.{Note}
 use Rattle.ks_arena.specs.declared.held.Pass.{Pass}
-use Rattle.ks_arena.specs.Sound.{Sort}
 use Rattle.ks_arena.specs.Clauses.{IsNote, IsNewCrew, IsCrew}
 use Rattle.ks_arena.specs.Of.{SameCaller, caller_of}
 use Rattle.ks_shape.specs.Idle.{Site, IsIdle}
-
--- a table that no arena has
-abbrev pub no_table : TableId
-no_table = record { words = 0; slots = 0; views_name = 0; atom = 0; block = 0; offset = 0; slot_names = [] }
-
--- an arena by its parts, for what is said of jobs before there is one
-abbrev pub site_with : Sort → (Frame → Type 0) → ((ℕ → NodeState) → (ℕ → Frame) → List Change → Type 0) → TableId → ℕ → ℕ → Site
-site_with sort begins step table callers nodes = record { sort = sort; begins = begins; step = step; table = table; callers = callers; nodes = nodes }
 
 module _ {N D : Type 0} where
   -- the passes that a start returns: one for each caller, numbered from 0; they have seen nothing and hold nothing

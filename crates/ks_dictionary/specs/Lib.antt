@@ -1,11 +1,9 @@
-pub mod Beginning
-pub mod Called
 pub mod Crew
 pub mod Ended
+pub mod Ends
 pub mod Guided
 pub mod Kept
 pub mod Laws
 pub mod Led
 pub mod Of
-pub mod Rooms
-pub mod Work
+pub mod Scan

@@ -58,8 +58,13 @@ impl<N: Node, T: Ruled> Shelf for Dictionary<N, T> {
 }
 
 impl<N: Node, T: Ruled> Dictionary<N, T> {
-    /// An empty dictionary over `nodes` nodes, as `start`, whose technique's rule admits a blank node.
-    pub(crate) fn start_fit(
+    /// An empty dictionary over `nodes` nodes, as `start`, by a technique whose rule admits a blank node: it need not have the
+    /// calls of `Template`.
+    ///
+    /// # Errors
+    ///
+    /// Only lack of memory.
+    pub fn start_fit(
         alloc: Global,
         nodes: u32,
         callers: u32,

@@ -4,16 +4,18 @@ ghost use Rattle.ks_history.specs.Trace.{calls_of};
 ghost use Rattle.ks_arena.specs.Clauses.{seen_of};
 ghost use Rattle.ks_arena.specs.Of.{SameCaller};
 ghost use Rattle.ks_shape.specs.Does.{OnlySearches};
-ghost use Rattle.ks_scan.specs.Ends.{HasFoundFirst, HasFoundLast};
-ghost use Rattle.ks_scan.specs.Scan.{IsDoneScan, NumbersAscend};
+ghost use Rattle.ks_dictionary.specs.Ends.{HasFoundFirst, HasFoundLast};
+ghost use Rattle.ks_dictionary.specs.Scan.{IsDoneScan, NumbersAscend};
 ghost use Rattle.ks_lines.specs.Scan.{IsScanOf};
 ghost use Rattle.ks_dictionary.specs.Of.{IsIdlePassOf, site_of};
 
 use crate::dictionary::Dictionary;
+use crate::ends::{Found, first_in, last_in};
+use crate::row::scan_into;
 use crate::runtime::Runtime;
 use ks_arena::{Arena, Pass};
+use ks_lines::Scanned;
 use ks_node::Node;
-use ks_scan::{Found, Scanned, first_in, last_in, scan_into};
 use ks_shape::{Part, Ruled, Scanning, scanning_law};
 
 impl<N: Node, T: Ruled + Scanning<N, Arena<N, <T as Ruled>::Rule>>> Dictionary<N, T> {

@@ -1,3 +1,4 @@
+use ks_boxed::Boxed;
 use ks_bplus::BNode;
 use ks_bst::TNode;
 use ks_coupling::Coupling;
@@ -7,7 +8,9 @@ use ks_link::LinkMove;
 use ks_linked::WithLink;
 use ks_list::ListNode;
 use ks_node::WithRange;
+use ks_places::{Golden, Plain};
 use ks_trials::{right_along_links, right_under_trees, rows};
+use ks_wide::WNode;
 use std::test::Fail;
 
 #[test]
@@ -106,6 +109,54 @@ fn trees_along_links(rt: HostRuntime) -> Result<(), Fail> {
 fn tables_along_links(rt: HostRuntime) -> Result<(), Fail> {
     let trials = rows::tables_along_links(rt.alloc())?;
     let right = right_along_links::<WithLink<HNode>, LinkMove, HostRuntime>(
+        &rt,
+        rt.alloc(),
+        &trials,
+    )?;
+    assert_eq!(rt; right, trials.len());
+    Ok(())
+}
+
+#[test]
+fn wide_trees_by_lock_coupling(rt: HostRuntime) -> Result<(), Fail> {
+    let trials = rows::wide_trees_under_trees(rt.alloc())?;
+    let right = right_under_trees::<Boxed<WNode<Plain, 16, 64>>, Coupling, HostRuntime>(
+        &rt,
+        rt.alloc(),
+        &trials,
+    )?;
+    assert_eq!(rt; right, trials.len());
+    Ok(())
+}
+
+#[test]
+fn wide_trees_along_links(rt: HostRuntime) -> Result<(), Fail> {
+    let trials = rows::wide_trees_along_links(rt.alloc())?;
+    let right = right_along_links::<WithLink<WNode<Plain, 16, 64>>, LinkMove, HostRuntime>(
+        &rt,
+        rt.alloc(),
+        &trials,
+    )?;
+    assert_eq!(rt; right, trials.len());
+    Ok(())
+}
+
+#[test]
+fn wide_tables_by_lock_coupling(rt: HostRuntime) -> Result<(), Fail> {
+    let trials = rows::wide_tables_under_trees(rt.alloc())?;
+    let right = right_under_trees::<Boxed<WNode<Golden, 32, 64>>, Coupling, HostRuntime>(
+        &rt,
+        rt.alloc(),
+        &trials,
+    )?;
+    assert_eq!(rt; right, trials.len());
+    Ok(())
+}
+
+#[test]
+fn wide_tables_along_links(rt: HostRuntime) -> Result<(), Fail> {
+    let trials = rows::wide_tables_along_links(rt.alloc())?;
+    let right = right_along_links::<WithLink<WNode<Golden, 32, 64>>, LinkMove, HostRuntime>(
         &rt,
         rt.alloc(),
         &trials,

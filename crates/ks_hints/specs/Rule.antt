@@ -1,7 +1,8 @@
 -- The rule of what readers take: each view has seen the first posts up to some post, and at most one view leads.
-use Rattle.std.specs.Prelude.{◌≡◌, ℕ, ◌<◌, List, [], ◌∷◌, ◌++◌, length, IsTrue, false, Option, Some, None}
+use Rattle.std.specs.Prelude.{◌≡◌, ℕ, ◌<◌, List, [], ◌∷◌, ◌++◌, length, IfSome, IsTrue, false, Option, Some, None}
 use mathlib.Core.Option.{some}
 use lib.ListN.{get_elem?}
+use Rattle.atomic_table.specs.Seated.{TableId}
 use Rattle.left_right.specs.Sides.{view}
 use Rattle.left_right.specs.declared.reader.Reader.{Reader}
 use Rattle.ks_hints.specs.declared.hint.Hint.{Hint}
@@ -40,3 +41,7 @@ module _ {P A : Type 0} where
   abbrev pub seen_by : Option (Reader Hints View P A) → List Hint
   seen_by None = []
   seen_by (Some r) = (view r.place).seen
+
+  -- the place of the reader, if it has one, is in this table
+  abbrev pub IsSeatedAt : TableId → Option (Reader Hints View P A) → Type 0
+  IsSeatedAt table reader = IfSome reader (λ r. r.place.table_id ≡ table)

@@ -1,8 +1,8 @@
 //! A writer with its readers.
 ghost use Rattle.std.specs.Prelude.{◌≡◌, ◌≤◌, [], length, IfOk, vec_capacity};
 ghost use Rattle.std.specs.List.{All};
-ghost use Rattle.ks_hints.specs.Rule.{seen_by};
-ghost use Rattle.ks_hints.specs.Posts.{posts_of, read_by};
+ghost use Rattle.ks_hints.specs.Rule.{IsSeatedAt, seen_by};
+ghost use Rattle.ks_hints.specs.Posts.{ReadsFrom, posts_of, read_by};
 
 use crate::blank::Blank;
 use crate::hint::Hint;
@@ -43,7 +43,8 @@ pub(crate) fn blanks(alloc: Global, count: u32) -> Result<Vec<Blank>, AllocError
 
 /// A reader that has read no post, if a place is left for one.
 fn reader_of(writer: &Writer<Hints, Hint, View, Rule>) -> Option<Reader<Hints, View, Rule>>
-    ensures { seen_by result ≡ [] }
+    ensures seen { seen_by result ≡ [] }
+    ensures seated { IsSeatedAt writer.now.desk.place.table_id result }
 {
     match writer.factory().reader() {
         Ok(reader) => Some(reader),
@@ -61,6 +62,7 @@ pub(crate) fn readers_of(
     requires empty { into.items ≡ [] }
     ensures count { length result.items ≡ length blanks.items }
     ensures reads { All (λ h. read_by h ≡ []) result.items }
+    ensures seated { All (λ h. IsSeatedAt writer.now.desk.place.table_id h.reader) result.items }
 {
     let mut into = into;
     for blank in blanks {
@@ -84,6 +86,7 @@ impl Hints {
         ensures posts { IfOk result (λ r. posts_of r.0 ≡ []) }
         ensures readers { IfOk result (λ r. length r.1.items ≡ readers) }
         ensures reads { IfOk result (λ r. All (λ h. read_by h ≡ []) r.1.items) }
+        ensures from { IfOk result (λ r. All (ReadsFrom r.0) r.1.items) }
     {
         let blanks = blanks(alloc, readers)?;
         let into = Vec::with_capacity(alloc, readers as usize)?;

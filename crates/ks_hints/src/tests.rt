@@ -5,6 +5,8 @@ use crate::starting::{blanks, readers_of};
 use crate::{HintReader, HintWriter, Hints, fits_threads};
 use std::alloc::{AllocError, Global};
 use std::sync::Wait;
+use std::sync::atomic::AtomicBool;
+use std::sync::atomic::Ordering::SeqCst;
 use std::test::Fail;
 use std::thread::join_mut;
 
@@ -145,39 +147,75 @@ fn a_refused_request_leaves_what_was_posted(rt: HostRuntime) -> Result<(), Fail>
     Ok(())
 }
 
-/// Posts node numbers in their order at one low.
-fn post_rising<R: Wait>(rt: &R, writer: &mut HintWriter, count: u32) -> Result<(), AllocError> {
-    for node in 0..count {
+/// By which a writer and a reader wait for one another.
+#[derive(Drop)]
+struct Meeting {
+    found_one: AtomicBool,
+    ended: AtomicBool,
+}
+
+/// The node of the last post at the one low.
+const LAST: u32 = 4_999;
+
+/// Posts node numbers in their order at one low. Half-way it waits until the reader has found one.
+fn post_rising<R: Wait>(rt: &R, writer: &mut HintWriter, at: &Meeting) -> Result<(), AllocError> {
+    for node in 0..LAST + 1 {
+        if node == LAST / 2 {
+            for _ in rt.forever() {
+                if at.found_one.load(SeqCst) {
+                    break;
+                }
+            }
+        }
         writer.post(rt, 8, node)?;
     }
     Ok(())
 }
 
-/// Asks `count` times. Returns whether no hint was below the one before.
-fn never_falls(reader: &mut HintReader, count: u32) -> bool {
+/// Posts, and says when it has ended.
+fn post_all<R: Wait>(rt: &R, writer: &mut HintWriter, at: &Meeting) -> Result<(), AllocError> {
+    let posted = post_rising(rt, writer, at);
+    at.ended.store(true, SeqCst);
+    posted
+}
+
+/// Asks until the posts have ended. Returns the first node that it found, and whether no hint was below the one before.
+fn never_falls<R: Wait>(rt: &R, reader: &mut HintReader, at: &Meeting) -> (Option<u32>, bool) {
+    let mut first = None;
     let mut last = 0;
     let mut rises = true;
-    for _ in 0..count {
-        let found = reader.hint(9).unwrap_or(0);
-        rises = rises && last <= found;
-        last = found;
+    for _ in rt.forever() {
+        if let Some(found) = reader.hint(9) {
+            first = first.or(Some(found));
+            at.found_one.store(true, SeqCst);
+            rises = rises && last <= found;
+            last = found;
+        }
+        if at.ended.load(SeqCst) {
+            break;
+        }
     }
-    rises
+    (first, rises)
 }
 
 #[test]
 fn hints_never_fall_beside_rising_posts(rt: HostRuntime) -> Result<(), Fail> {
     let (mut writer, mut reader) = start_one(&rt, rt.alloc())?;
     fits_threads(&writer, &reader);
-    let (rises, posted) = join_mut(
+    let at = Meeting {
+        found_one: AtomicBool::new(false),
+        ended: AtomicBool::new(false),
+    };
+    let ((first, rises), posted) = join_mut(
         &rt,
-        &mut || never_falls(&mut reader, 50_000),
-        &mut || post_rising(&rt, &mut writer, 5_000),
+        &mut || never_falls(&rt, &mut reader, &at),
+        &mut || post_all(&rt, &mut writer, &at),
     );
     let last = reader.hint(8);
     writer.end(&rt);
     posted?;
     assert!(rt; rises);
-    assert_eq!(rt; last, Some(4_999));
+    assert!(rt; matches!(first, Some(node) if node < LAST / 2));
+    assert_eq!(rt; last, Some(LAST));
     Ok(())
 }

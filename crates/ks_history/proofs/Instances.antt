@@ -21,7 +21,7 @@ use Rattle.ks_keysets.specs.Record.{IsPlace, LeadsTo, top}
 use Rattle.ks_keysets.specs.Frame.{empty_record, blank_frame}
 use Rattle.ks_keysets.specs.Keyset.{opening, live_record, record_at, IsLive, Reaches, at_root, along, InInset, InKeyset, InOutset}
 use Rattle.ks_keysets.specs.Laws.Found.{reached_live}
-use Rattle.ks_keysets.specs.Layout.{Layout, list_layout, bplus_layout, hash_layout, bst_layout}
+use Rattle.ks_keysets.specs.Layout.{Layout, list_layout, bplus_layout, hash_layout, bst_layout, wide_layout, room}
 use Rattle.ks_keysets.specs.Tight.{Fit, IsLow, IsNext, IsRightNeighbour, chained, beside}
 use Rattle.ks_history.specs.declared.Op.TheVariants.{Get, Put}
 use Rattle.ks_history.specs.declared.Reply.TheVariants.{Nothing, Full}
@@ -66,11 +66,8 @@ no_edges : (j : ℕ) (r : Record) → record_at (graph_after []) j ≡ Some r �
 no_edges j r is = ap (λ (t : Record). length t.edges) (opening_is j r is)
 
 -- so a Full is refused at the opening root, which has room
-full_needs_room : (layout : Layout) (s : List Event) → FullDue layout 4 s [] (Call 0 0 (Put 5 50) Full) → ⊥
-full_needs_room list_layout s due = let full = due.no_room.0.1 in omega (arith, no_pairs 0 full.node full.is, full.filled)
-full_needs_room bplus_layout s due = let full = due.no_room.0.1 in omega (arith, no_pairs 0 full.node full.is, full.filled)
-full_needs_room hash_layout s due = let full = due.no_room.0.1 in omega (arith, no_pairs 0 full.node full.is, full.filled)
-full_needs_room bst_layout s due = let full = due.no_room.0.1 in omega (arith, no_pairs 0 full.node full.is, full.filled)
+full_needs_room : (layout : Layout) → room layout ≢ 0 → (s : List Event) → FullDue layout 4 s [] (Call 0 0 (Put 5 50) Full) → ⊥
+full_needs_room layout some s due = let full = due.no_room.0.1 in some (sym full.filled ∙ no_pairs 0 full.node full.is)
 
 -- eight pairs fill a list node, and if it is the only node of the arena a ninth is Full
 
@@ -329,9 +326,15 @@ more_do_not r s e f fit = omega arith
 directory_alone : (layout : Layout) (r s : Record) → Fit layout Directory r Directory s → ⊥
 directory_alone layout r s fit = fit
 
--- only in the B+ layout do inner nodes fit, and are they low
+-- only in the B+ layouts do inner nodes fit, and are they low
 inner_fit : (r s : Record) → length r.edges ≡ 1 → length s.edges ≡ 1 → Fit bplus_layout Inner r Inner s × IsLow bplus_layout Inner r
 inner_fit r s e f = (omega (arith, e, f), omega (arith, e))
+
+wide_fit : (r s : Record) → length r.edges ≡ 31 → length s.edges ≡ 33 → Fit (wide_layout 32 64) Inner r Inner s × IsLow (wide_layout 32 64) Inner r
+wide_fit r s e f = (omega (arith, e, f), omega (arith, e))
+
+wide_do_not : (r s : Record) → length r.edges ≡ 31 → length s.edges ≡ 34 → Fit (wide_layout 32 64) Inner r Inner s → ⊥
+wide_do_not r s e f fit = omega arith
 
 inner_alone : (r s : Record) → ¬ Fit hash_layout Inner r Inner s × ¬ IsLow hash_layout Inner r × ¬ Fit list_layout Inner r Inner s × ¬ IsLow list_layout Inner r
 inner_alone r s = (λ fit. fit, λ low. low, λ fit. fit, λ low. low)
@@ -567,7 +570,7 @@ abbrev filled_claim : List Event
 filled_claim = Claim 0 1 ∷ filled
 
 claimed_beside : HoldsLiveBut hash_layout 9 filled_claim 0
-claimed_beside = record { one = 1; claimed = refl; node = 0; holds = refl; grows = (refl, full_root, refl, refl); others = others }
+claimed_beside = record { one = 1; claimed = refl; node = 0; holds = refl; grows = (refl, full_root, refl, inl refl); others = others }
   where
     others : (j : ℕ) → j ≢ 1 → turn_after filled_claim j ≡ held 0 → IsLive (graph_after filled_claim) j
     others zero ne mine = (full_root, refl)
@@ -670,7 +673,7 @@ not_beside_leaf_of_bplus but =
     let same : fork_root ≡ but.grows.1 = same_Some fork_root but.grows.1 (sym root ∙ but.grows.2) in
     elim but.grows.3 [
       | inl pairs ↦ omega (arith, pairs, ap (λ (z : Record). length z.pairs) same)
-      | inr edges ↦ omega (arith, edges, ap (λ (z : Record). length z.edges) same)
+      | inr edges ↦ omega (arith, same_Some 16 (length but.grows.1.edges) edges, ap (λ (z : Record). length z.edges) same)
     ]
 
 -- the node of `one_moved` moved, by the law: each Shape there leaves the insets of the nodes that it does not name

@@ -5,7 +5,7 @@ use Rattle.ks_keysets.specs.declared.NodeState.TheVariants.{Claimed}
 use Rattle.ks_keysets.specs.declared.Record.{Record}
 use Rattle.ks_keysets.specs.Record.{first_value}
 use Rattle.ks_keysets.specs.Keyset.{record_at, IsLive, InKeyset, value_at}
-use Rattle.ks_keysets.specs.Layout.{Layout, list_layout, bplus_layout, hash_layout, bst_layout, room}
+use Rattle.ks_keysets.specs.Layout.{Layout, list_layout, bplus_layout, hash_layout, bst_layout, wide_layout, room, fan}
 use Rattle.ks_history.specs.declared.Op.{Op}
 use Rattle.ks_history.specs.declared.Op.TheVariants.{Get, Put, Del, Add, Swap, Part, Move}
 use Rattle.ks_history.specs.declared.Reply.TheVariants.{Full}
@@ -50,13 +50,18 @@ FindsNoRoom layout g (Shape c changes) place = ⊥
 FindsNoRoom layout g (Call c i op reply) place = HasNoRoom layout g i op place × (reply ≡ Full)
 FindsNoRoom layout g (Twin c i j op reply) place = HasNoRoomFor layout g i j op place × (reply ≡ Full)
 
--- the node may grow for the place, by two nodes that are claimed one after the other: in a B+ or hash layout the full root, in
--- a binary search tree the full leaf whose keyset has the place
+-- the node is the root, and full: as a leaf, or as an inner node
+abbrev pub IsFullRoot : Layout → (ℕ → NodeState) → ℕ → Type 0
+IsFullRoot layout g node = (node ≡ 0) × (r : Record) × (record_at g node ≡ Some r) × ((length r.pairs ≡ room layout) ⊎ (fan layout ≡ Some (length r.edges)))
+
+-- the node may grow for the place, by two nodes that are claimed one after the other: in a binary search tree the full leaf
+-- whose keyset has the place, in a sorted list none, in the other layouts the full root
 abbrev pub MayGrow : Layout → (ℕ → NodeState) → ℕ → ℕ → Type 0
 MayGrow list_layout g node place = ⊥
-MayGrow bplus_layout g node place = (node ≡ 0) × (r : Record) × (record_at g node ≡ Some r) × ((length r.pairs ≡ room bplus_layout) ⊎ (length r.edges ≡ room bplus_layout))
-MayGrow hash_layout g node place = (node ≡ 0) × (r : Record) × (record_at g node ≡ Some r) × (length r.pairs ≡ room hash_layout)
+MayGrow bplus_layout g node place = IsFullRoot bplus_layout g node
+MayGrow hash_layout g node place = IsFullRoot hash_layout g node
 MayGrow bst_layout g node place = InKeyset g node place × (r : Record) × (record_at g node ≡ Some r) × (length r.pairs ≡ room bst_layout)
+MayGrow (wide_layout pairs children) g node place = IsFullRoot (wide_layout pairs children) g node
 
 -- each node that c holds after h is live
 abbrev pub HoldsLive : List Event → ℕ → Type 0

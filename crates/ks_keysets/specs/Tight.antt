@@ -7,16 +7,13 @@ use Rattle.ks_keysets.specs.declared.Frame.{Frame}
 use Rattle.ks_keysets.specs.declared.NodeState.{NodeState}
 use Rattle.ks_keysets.specs.declared.Record.{Record}
 use Rattle.ks_keysets.specs.Keyset.{record_at, InKeyset}
-use Rattle.ks_keysets.specs.Layout.{Layout, list_layout, bplus_layout, hash_layout, bst_layout, room}
+use Rattle.ks_keysets.specs.Layout.{Layout, room, fan}
 
 -- how many pairs a node that is no branch may have, and how many children a branch, if there is a bound: directories have
--- none, and inner nodes have one only in the B+ layout
+-- none
 abbrev pub capacity : Layout → Kind → Option ℕ
 capacity layout NoBranch = Some (room layout)
-capacity list_layout Inner = None
-capacity bplus_layout Inner = Some (room bplus_layout)
-capacity hash_layout Inner = None
-capacity bst_layout Inner = None
+capacity layout Inner = fan layout
 capacity layout Directory = None
 
 -- what a node of the kind has that counts against its capacity: the edges of a branch, the pairs of another node

@@ -6,9 +6,11 @@
 #![tactic(auto)]
 
 mod parts;
+mod setting;
 
 use ks_history::{Op, Reply};
 pub use parts::{Part, Parts};
+pub use setting::{Aiding, Setting};
 
 /// A line of a script. Numbers of places in its operation are keys.
 #[derive(Clone, Copy, Debug, PartialEq, Eq)]

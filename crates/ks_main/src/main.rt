@@ -2,25 +2,23 @@
 //! with its status.
 #![tactic(auto)]
 
-ghost use Rattle.std.specs.Prelude.{◌≡◌, drop, IfOk, IsErr, IsErrOf};
+ghost use Rattle.std.specs.Prelude.{◌≡◌, [], drop, IfOk, IsErr, IsErrOf, IsNone};
 ghost use Rattle.std.specs.Process.{exit_status};
 ghost use Rattle.std_alloc.specs.Vec.Iter.{into_iter_items};
 ghost use Rattle.ks_script.specs.Outside.{Rose};
-ghost use Rattle.ks_batch.specs.Words.{bytes_of};
+ghost use Rattle.ks_words.specs.Words.{bytes_of};
 ghost use Rattle.ks_batch.specs.Leaves.{Leaves};
 
-mod streams;
-
-use ks_batch::status::{NO_COMMAND, NO_MEMORY};
 use ks_batch::{Outcome, serve};
 use ks_gate::NoGate;
 use ks_script::{Sink, Source};
+use ks_streams::{StdSink, StdSource};
+use ks_words::status::NO_MEMORY;
 use std::alloc::{AllocError, Global};
 use std::process::ExitCode;
 use std::sync::Wait;
 use std::thread::Threads;
 use std::{env, io};
-use streams::{StdSink, StdSource};
 
 /// Why there are no words.
 #[derive(Clone, Copy, Debug, PartialEq, Eq)]
@@ -62,27 +60,9 @@ fn exit_code(outcome: &Outcome) -> ExitCode
     ExitCode::from(outcome.status)
 }
 
-/// Does what the words ask for, with a gate that stops no caller, and returns what the process ends with.
-fn run<R: Threads + Wait + Sync, S: Source, K: Sink, E: Sink>(
-    rt: &R,
-    alloc: Global,
-    words: &[String],
-    source: &mut S,
-    out: &mut K,
-    err: &mut E,
-) -> ExitCode
-    ensures leaves { Leaves (bytes_of words.now)
-        (S.left source.old) (S.left source.new) (Rose (S.faults source.old) (S.faults source.new))
-        (K.taken out.old) (K.taken out.new) (Rose (K.faults out.old) (K.faults out.new))
-        (E.taken err.old) (E.taken err.new) (Rose (E.faults err.old) (E.faults err.new)) (exit_status result) }
-{
-    let outcome = serve(rt, alloc, words, source, out, err, &NoGate);
-    exit_code(&outcome)
-}
-
-/// Does what the words ask for, and returns what the process ends with. If one of them is no text, they are no command, and the
-/// status is 1. If there was no memory for them, the status is 5, and nothing is said on the error output. In both cases
-/// nothing is read, and nothing is printed on the output.
+/// Does what the words ask for, with a gate that stops no caller. If one of them is no text, they are no command: it does what it
+/// does with no words. If there was no memory for them, the status is 5, nothing is served, read or printed, and nothing is said
+/// on the error output.
 fn answer<R: Threads + Wait + Sync, S: Source, K: Sink, E: Sink>(
     rt: &R,
     alloc: Global,
@@ -90,20 +70,31 @@ fn answer<R: Threads + Wait + Sync, S: Source, K: Sink, E: Sink>(
     source: &mut S,
     out: &mut K,
     err: &mut E,
-) -> ExitCode
+) -> Outcome
     ensures text { IfOk words (λ text. Leaves (bytes_of text.items)
         (S.left source.old) (S.left source.new) (Rose (S.faults source.old) (S.faults source.new))
         (K.taken out.old) (K.taken out.new) (Rose (K.faults out.old) (K.faults out.new))
-        (E.taken err.old) (E.taken err.new) (Rose (E.faults err.old) (E.faults err.new)) (exit_status result)) }
-    ensures no_text { IsErrOf words NoWords.NoText → exit_status result ≡ NO_COMMAND }
-    ensures no_memory { IsErrOf words NoWords.Memory → exit_status result ≡ NO_MEMORY }
+        (E.taken err.old) (E.taken err.new) (Rose (E.faults err.old) (E.faults err.new)) result) }
+    ensures no_text { IsErrOf words NoWords.NoText → Leaves []
+        (S.left source.old) (S.left source.new) (Rose (S.faults source.old) (S.faults source.new))
+        (K.taken out.old) (K.taken out.new) (Rose (K.faults out.old) (K.faults out.new))
+        (E.taken err.old) (E.taken err.new) (Rose (E.faults err.old) (E.faults err.new)) result }
+    ensures no_memory { IsErrOf words NoWords.Memory → result.status ≡ NO_MEMORY }
+    ensures not_served { IsErrOf words NoWords.Memory → IsNone result.run }
+    ensures unsaid { IsErrOf words NoWords.Memory → E.taken err.new ≡ E.taken err.old }
     ensures unread { IsErr words → S.left source.new ≡ S.left source.old }
     ensures unwritten { IsErr words → K.taken out.new ≡ K.taken out.old }
 {
     match words {
-        Ok(words) => run(rt, alloc, &words, source, out, err),
-        Err(NoWords::NoText) => run(rt, alloc, &[], source, out, err),
-        Err(NoWords::Memory) => ExitCode::from(NO_MEMORY),
+        Ok(words) => serve(rt, alloc, &words, source, out, err, &NoGate),
+        Err(NoWords::NoText) => serve(rt, alloc, &[], source, out, err, &NoGate),
+        Err(NoWords::Memory) => Outcome {
+            status: NO_MEMORY,
+            line: 0,
+            number: 0,
+            why: None,
+            run: None,
+        },
     }
 }
 
@@ -111,5 +102,6 @@ fn main(rt: HostRuntime) -> ExitCode {
     let mut source = StdSource::new(rt.stdin());
     let mut out = StdSink::new(rt.stdout());
     let mut err = StdSink::new(rt.stderr());
-    answer(&rt, rt.alloc(), words(&rt), &mut source, &mut out, &mut err)
+    let outcome = answer(&rt, rt.alloc(), words(&rt), &mut source, &mut out, &mut err);
+    exit_code(&outcome)
 }

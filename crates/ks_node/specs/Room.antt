@@ -3,7 +3,7 @@ use Rattle.std.specs.Prelude.{ℕ, ◌+◌, ◌*◌, ◌≤◌, Bool, false, tru
 use Rattle.std.specs.Option.{ForSome}
 use Rattle.ks_keysets.specs.declared.Kind.{Kind}
 use Rattle.ks_keysets.specs.declared.Kind.TheVariants.{NoBranch, Inner, Directory}
-use Rattle.ks_keysets.specs.Layout.{Layout, list_layout, bplus_layout, hash_layout, bst_layout}
+use Rattle.ks_keysets.specs.Layout.{Layout, list_layout, bplus_layout, hash_layout, bst_layout, wide_layout}
 use Rattle.ks_keysets.specs.Tight.{capacity}
 use Rattle.ks_node.specs.Body.{Body, is_branch}
 
@@ -13,6 +13,7 @@ may_grow list_layout = false
 may_grow bplus_layout = true
 may_grow hash_layout = true
 may_grow bst_layout = true
+may_grow (wide_layout pairs children) = true
 
 -- whether a full node of the layout becomes a branch wherever it is, and not only at the root
 abbrev pub in_place : Layout → Bool
@@ -20,6 +21,7 @@ in_place list_layout = false
 in_place bplus_layout = false
 in_place hash_layout = false
 in_place bst_layout = true
+in_place (wide_layout pairs children) = false
 
 -- the edges of a branch, the pairs of another node
 abbrev pub load : Body → ℕ

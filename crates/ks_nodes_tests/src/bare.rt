@@ -7,6 +7,7 @@ ghost use Rattle.ks_nodes_tests.specs.Bare.{IsBare};
 use ks_asked::lie_in;
 use ks_keysets::Span;
 use ks_node::{Node, Unlinked};
+use ks_places::Placing;
 use std::alloc::Global;
 use std::process::Abort;
 
@@ -24,15 +25,15 @@ fn blank<N: Node>(rt: &impl Abort, alloc: Global) -> N
     N::blank(alloc).expect(rt, "memory")
 }
 
-/// A leaf with each place from the first one to below the end, as its own value.
+/// A leaf with each key from the first one to below the end, as its own value.
 pub fn filled<N: Node>(rt: &impl Abort, alloc: Global, first: u64, end: u64) -> N
     requires { N.ranged ≡ false }
     ensures { IsBare 0 (N.body result) }
 {
     let mut node = blank::<N>(rt, alloc);
-    for place in first..end {
+    for key in first..end {
         assert!(rt; !node.is_full());
-        assert!(rt; node.put(place, place as u128) == None);
+        assert!(rt; node.put(N::Places::place(key), key as u128) == None);
     }
     node
 }

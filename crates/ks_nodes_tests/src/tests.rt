@@ -6,8 +6,9 @@ use crate::asked;
 use crate::listing::lists;
 use crate::trial::Trial;
 use crate::worked::{
-    forgets_its_right_child, grows_forgets_and_collapses, grows_to_a_fork, is_full_with_two,
-    lists_spans, splits_and_absorbs, splits_and_adopts, splits_two,
+    forgets_its_right_child, grows_forgets_and_collapses, grows_to_a_fork, is_cut_at_key_17,
+    is_full_with_two, keeps_nine_neighbours, lists_spans, splits_and_absorbs, splits_and_adopts,
+    splits_two,
 };
 use ks_boxed::Boxed;
 use ks_bplus::BNode;
@@ -16,11 +17,19 @@ use ks_hash::HNode;
 use ks_linked::WithLink;
 use ks_list::ListNode;
 use ks_node::{Growing, Linked, Listed, Node, Ordered, Ranged, Unlinked, WithRange};
+use ks_places::{Golden, Plain};
+use ks_wide::WNode;
 use std::alloc::Global;
 use std::process::Abort;
 
 /// The places of a smallest slice of a directory.
 const SLICE: u64 = 0x0400_0000_0000_0000;
+
+/// A leaf of 16 pairs, or a branch of 64 children.
+type WideTree = WNode<Plain, 16, 64>;
+
+/// A bucket of 32 pairs, or a branch of 64 children.
+type WideTable = WNode<Golden, 32, 64>;
 
 /// A blank node keeps a pair.
 fn keeps_a_pair<N: Node>(rt: &impl Abort, alloc: Global) {
@@ -84,6 +93,7 @@ fn branches_merge<N: Unlinked + Listed>(rt: &impl Abort, alloc: Global) {
     root.adopt(rt, 48, 4);
     root.adopt(rt, 16, 3);
     root.adopt_dozen(rt);
+    root.adopt_rest(rt);
     assert!(rt; root.node.is_full() && asked::refuses(rt, &root.node, 33));
     let (mut left, mut right) = root.grow(rt, alloc, 32, [5, 6]);
     left.absorb(rt, &mut right);
@@ -189,6 +199,7 @@ fn does_as_a_b_plus_node_with_a_range<N: Unlinked + Listed>(rt: &impl Abort, all
 /// What B+ nodes with a link do.
 fn does_as_a_b_plus_node_with_a_link<N: Linked + Listed>(rt: &impl Abort, alloc: Global) {
     let mut root = goes_right::<N>(rt, alloc, 1, 4);
+    root.adopt_rest(rt);
     let _ = root.grow_link(rt, alloc, 32, [5, 6]);
     assert!(rt; root.node.level() == 2);
     lists_few::<N>(rt, alloc);
@@ -280,10 +291,40 @@ fn a_binary_tree_with_a_range_grows_below_the_root(rt: HostRuntime) {
     does_as_a_binary_tree_with_a_range::<WithRange<TNode>>(&rt, rt.alloc());
 }
 
+#[test]
+fn a_wide_tree_node_keeps_a_pair_splits_absorbs_lists_and_collapses(rt: HostRuntime) {
+    does_as_a_b_plus_node::<WideTree>(&rt, rt.alloc());
+}
+
+#[test]
+fn a_wide_tree_node_with_a_range_splits_merges_and_lists(rt: HostRuntime) {
+    does_as_a_b_plus_node_with_a_range::<WithRange<WideTree>>(&rt, rt.alloc());
+}
+
+#[test]
+fn a_wide_tree_node_with_a_link_splits_to_the_right_grows_and_lists(rt: HostRuntime) {
+    does_as_a_b_plus_node_with_a_link::<WithLink<WideTree>>(&rt, rt.alloc());
+}
+
+#[test]
+fn a_wide_hash_node_keeps_a_pair_splits_merges_and_goes_right(rt: HostRuntime) {
+    does_as_a_hash_node::<WideTable>(&rt, rt.alloc());
+    merges::<WithRange<WideTable>>(&rt, rt.alloc(), 1, 2);
+    let root = goes_right::<WithLink<WideTable>>(&rt, rt.alloc(), 1, 2);
+    assert!(rt; !root.node.is_full());
+}
+
+#[test]
+fn a_wide_bucket_has_32_pairs_and_is_cut_at_the_middle_one(rt: HostRuntime) {
+    keeps_nine_neighbours::<WideTable>(&rt, rt.alloc());
+    is_cut_at_key_17::<WideTable>(&rt, rt.alloc());
+}
+
 // (those with only a range or only a link begin blank, and are filled, in the tests above)
 #[test]
 fn blank_nodes_in_other_wrappers_keep_a_pair(rt: HostRuntime) {
     keeps_a_pair::<WithRange<WithRange<ListNode>>>(&rt, rt.alloc());
     keeps_a_pair::<Boxed<BNode>>(&rt, rt.alloc());
+    keeps_a_pair::<Boxed<WideTree>>(&rt, rt.alloc());
     keeps_a_pair::<WithLink<WithRange<BNode>>>(&rt, rt.alloc());
 }

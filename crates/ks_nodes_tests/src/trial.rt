@@ -131,6 +131,15 @@ impl<N: Ranged> Trial<N> {
             }
         }
     }
+
+    /// Adds edges until a branch of those sixteen is full: one from each stretch on, if it has room for 64.
+    pub fn adopt_rest(&mut self, rt: &impl Abort) {
+        for i in 1..64usize {
+            if i % 4 != 0 && !self.node.is_full() {
+                self.adopt(rt, i, 100 + i as u32);
+            }
+        }
+    }
 }
 
 impl<N: Unlinked + Ranged> Trial<N> {

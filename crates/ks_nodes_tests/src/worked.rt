@@ -5,6 +5,7 @@ ghost use Rattle.std.specs.Prelude.{◌≡◌, false};
 use crate::bare::{absorb, adopt, collapse, filled, forget, grow, split};
 use ks_keysets::{Few, Pair};
 use ks_node::{Next, Node, Ordered, Unlinked};
+use ks_places::Placing;
 use std::alloc::Global;
 use std::process::Abort;
 
@@ -189,4 +190,37 @@ pub fn forgets_its_right_child<N: Unlinked>(rt: &impl Abort, alloc: Global)
 {
     forgets::<N>(rt, alloc, 3, 2, None);
     forgets::<N>(rt, alloc, 2, 1, Some(1));
+}
+
+/// A bucket with the keys 0 to 31 is full, and is cut at the place of key 17: 16 of them lie below it. Key 32 lies above it.
+pub fn is_cut_at_key_17<N: Unlinked>(rt: &impl Abort, alloc: Global)
+    requires { N.ranged ≡ false }
+{
+    const CUT: u64 = 9344711191398858085;
+    let mut node = filled::<N>(rt, alloc, 0, 32);
+    is_cut_at(rt, &node, CUT);
+    let mut right = split(rt, alloc, &mut node, CUT);
+    assert!(rt; node.pairs_held() == 16 && right.pairs_held() == 16);
+    let first = Pair {
+        place: CUT,
+        value: 17,
+    };
+    assert!(rt; right.pair_at(0) == first);
+    assert!(rt; !right.is_full() && node.fits(&right));
+    assert!(rt; right.put(N::Places::place(32), 32) == None);
+    assert!(rt; right.pairs_held() == 17 && right.pair_at(0) == first);
+    assert!(rt; !node.fits(&right));
+}
+
+/// A bucket with nine neighbouring places has them all.
+pub fn keeps_nine_neighbours<N: Node>(rt: &impl Abort, alloc: Global)
+    requires { N.ranged ≡ false }
+{
+    let mut node = filled::<N>(rt, alloc, 0, 0);
+    for place in 1..10u64 {
+        assert!(rt; !node.is_full());
+        assert!(rt; node.put(place, place as u128) == None);
+    }
+    has(rt, &node, 1, 10);
+    assert!(rt; !node.is_full() && node.is_low());
 }

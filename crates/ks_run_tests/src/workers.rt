@@ -2,10 +2,14 @@
 
 ghost use Rattle.std.specs.Prelude.{◌<◌, ◌≤◌};
 
-use ks_batch::{Draft, Made, Pairing, make};
+use ks_batch::serve_by;
+use ks_ends::{Request, end};
 use ks_gate::{NoGate, Point};
+use ks_lines::{Aiding, Setting};
+use ks_script::MemSink;
 use ks_whole_runs::Piece::Bytes;
 use ks_whole_runs::{Ends, Row, SERVED, Stop, Wrong, run, run_each};
+use ks_words::{Draft, Pairing, Structure, Technique};
 use std::alloc::{AllocError, Global};
 use std::sync::Wait;
 use std::test::Fail;
@@ -46,28 +50,38 @@ fn one_worker_serves_a_caller_whole(rt: HostRuntime) -> Result<(), Wrong> {
     run_each(&rt, rt.alloc(), &IN_VAIN)
 }
 
-/// Makes a script and serves it with as many workers.
+/// Makes a script, serves it with as many workers, and returns what is printed.
 fn made_by<R: Threads + Wait + Sync>(
     rt: &R,
     alloc: Global,
     workers: u32,
-) -> Result<Made, AllocError>
+) -> Result<Vec<u8>, AllocError>
     requires { (1 ≤ workers) × (workers ≤ 64) }
 {
+    let pairing = Pairing {
+        structure: Structure::Bplus,
+        technique: Technique::Coupling,
+    };
+    let setting = Setting {
+        nodes: 4096,
+        workers,
+        aiding: Aiding::Guides,
+    };
     let draft = Draft {
         callers: 64,
         calls: 16,
         first: 7,
     };
-    make(
-        rt,
-        alloc,
-        Pairing::BplusCoupling,
-        4096,
-        draft,
-        workers,
-        &NoGate,
-    )
+    let Request {
+        pairing: _,
+        setting: _,
+        script,
+        printing,
+    } = Request::made(alloc, pairing, setting, draft)?;
+    let told = serve_by(rt, alloc, &NoGate, pairing, setting, script)?;
+    let mut out = MemSink::new(alloc, 4096, 4096, Vec::new(alloc))?;
+    end(alloc, &mut out, printing, &told.printed)?;
+    Vec::from_slice(alloc, out.taken())
 }
 
 /// The first of the numbers of workers whose text that sums up a run differs from that of the command `make`.
@@ -84,7 +98,7 @@ fn first_other<R: Threads + Wait + Sync>(
             return Ok(Some(workers));
         }
         let made = made_by(rt, alloc, workers)?;
-        if made.text.as_slice() != ended.out.as_slice() {
+        if made.as_slice() != ended.out.as_slice() {
             return Ok(Some(workers));
         }
     }

@@ -89,7 +89,7 @@ spelled_wide (Call (Part low last)) h = absurd h
 spelled_wide other h = record { ns = numbers_in other; small = h; line = search (rules, append_assoc, append-nil); count = refl; back = refl; shown = λ tail. refl; apart = (λ e. omega (arith, e), λ e. omega (arith, e)); some = omega arith; plain = refl }
 
 -- the values of a version have 128 bits
-value_small : (version : Version) (v : ℕ) → v < value_limit version → v < 2 ^ 128
+pub value_small : (version : Version) (v : ℕ) → v < value_limit version → v < 2 ^ 128
 value_small First v h = wide v h
 value_small other v h = h
 

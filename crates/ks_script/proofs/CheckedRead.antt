@@ -1,10 +1,11 @@
 -- A script and a run of it that were read line by line.
-use Rattle.ks_script.proofs.Common.{ℕ, ◌≡◌, ◌+◌, ◌-◌, List, [], ◌∷◌, ◌++◌, take, drop, get_or, codes, refl, sym, ap, subst, ◌∙◌, append_assoc, arith, length-append, Ok, Err, Result, Line, TextFault, Refused, Memory, Version, lines_of, IsScript, version_line, script_lines, Run, run_lines, IsRunOf, SpellsChecked, AreChecked, CheckedOf, FirstBadOfChecked, Answers, Gives, Lines, NotFirst, RefusedBehind, Reads, Stops, SpellsRun, AreRun}
+use Rattle.ks_script.proofs.Common.{ℕ, ◌≡◌, ◌+◌, ◌-◌, List, [], ◌∷◌, ◌++◌, take, drop, get_or, codes, refl, sym, ap, subst, ◌∙◌, append_assoc, arith, length-append, Ok, Err, Result, Line, TextFault, Refused, Memory, Version, lines_of, IsScript, version_line, script_lines, Run, run_lines, IsRunOf, SpellsChecked, AreChecked, CheckedOf, FirstBadOfChecked, Answers, Gives, Refuses, Says, Lines, NotFirst, RefusedBehind, Reads, Stops, SpellsRun, AreRun}
 use Rattle.ks_script.proofs.Leading.{bad_behind, bad_no_text, one_bad, not_first_same, refused_at}
 use Rattle.ks_script.proofs.CallLines.{first, spelled}
 use Rattle.ks_script.proofs.ScriptRead.{Apart, Next, at_end, at_caller, at_line, none_said, script_next, stuck, stops_same}
 use Rattle.ks_script.proofs.RunRead.{blanks, whole_run, one_run_of}
 use Rattle.ks_script.proofs.Saids.{open_script}
+use Rattle.ks_script.specs.Reasons.{IsCheckedReason, IsInRun}
 
 -- `run` and lines behind it begin with nothing of a script
 run_apart : (ls : Lines) (v : Version) → Apart v (codes "run" ∷ ls)
@@ -50,6 +51,9 @@ module _ (v : Version) (all : List (List Line)) (is : IsScript v all) where
           front_run : (a b : Lines) → front ++ codes "run" ∷ (a ++ b) ≡ ((front ++ codes "run" ∷ []) ++ a) ++ b
           front_run a b = simp append_assoc
 
+      pub in_run : (k : ℕ) → RefusedBehind (n + 1) (AreRun all) (lines_of text) k → IsInRun (lines_of bytes) k
+      in_run k bad = record { before = front; behind = lines_of text; lines_are = read.lines_are ∙ ap (λ (ls : Lines). front ++ ls) line; place = omega (arith, bad.1, bad.2.place, read.counted) }
+
       -- a run of the script
       pub whole_checked : (run : Run) → SpellsRun all run (lines_of text) → CheckedOf bytes all run
       whole_checked run h = (v, subst (SpellsChecked v all run) (sym (read.lines_are ∙ ap (λ (ls : Lines). front ++ ls) line)) (made run (lines_of text) h))
@@ -67,15 +71,15 @@ Returned = Result (List (List Line) × Run) TextFault
 abbrev IsRight : List ℕ → Returned → Type 0
 IsRight bytes r = Answers r (λ x. CheckedOf bytes x.0 x.1) (FirstBadOfChecked bytes)
 
-pub due : (bytes : List ℕ) (r : Returned) → IsRight bytes r → record { answer : IsRight bytes r; checked : (script : List (List Line)) (run : Run) → CheckedOf bytes script run → Gives r (Ok (script, run)); refused : (n : ℕ) → FirstBadOfChecked bytes n → Gives r (Err (Refused n)) }
-due bytes r right = record { answer = right; checked = λ script run h. checked r script run right h; refused = λ n h. refused r n right h }
+pub due : (bytes : List ℕ) (r : Returned) → IsRight bytes r → Says r (IsCheckedReason (lines_of bytes)) → record { answer : IsRight bytes r; checked : (script : List (List Line)) (run : Run) → CheckedOf bytes script run → Gives r (Ok (script, run)); refused : (n : ℕ) → FirstBadOfChecked bytes n → Refuses r n; why : Says r (IsCheckedReason (lines_of bytes)) }
+due bytes r right why = record { answer = right; checked = λ script run h. checked r script run right h; refused = λ n h. refused r n right h; why = why }
   where
     checked : (r : Returned) (script : List (List Line)) (run : Run) → IsRight bytes r → CheckedOf bytes script run → Gives r (Ok (script, run))
     checked (Ok x) script run h k = let same = one_checked bytes script x.0 run x.1 k h in λ i. Ok (same.0 i, same.1 i)
-    checked (Err (Refused n)) script run h k = absurd (bad_no_text AreChecked (lines_of bytes) n h (k.0, script, run, k.1))
+    checked (Err (Refused n why)) script run h k = absurd (bad_no_text AreChecked (lines_of bytes) n h (k.0, script, run, k.1))
     checked (Err Memory) script run h k = tt
 
-    refused : (r : Returned) (n : ℕ) → IsRight bytes r → FirstBadOfChecked bytes n → Gives r (Err (Refused n))
+    refused : (r : Returned) (n : ℕ) → IsRight bytes r → FirstBadOfChecked bytes n → Refuses r n
     refused (Ok x) n h k = absurd (bad_no_text AreChecked (lines_of bytes) n k (h.0, x.0, x.1, h.1))
-    refused (Err (Refused m)) n h k = ap (λ (j : ℕ). let r : Returned = Err (Refused j) in r) (one_bad AreChecked (lines_of bytes) m n h k)
+    refused (Err (Refused m why)) n h k = one_bad AreChecked (lines_of bytes) m n h k
     refused (Err Memory) n h k = tt

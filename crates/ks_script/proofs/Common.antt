@@ -24,7 +24,7 @@ pub use Rattle.ks_script.specs.Left.{Stops, HasBegun, NoVersion, HasLine, IsLine
 pub use Rattle.ks_script.specs.Lined.{EndsLine, Lined, NotLined}
 pub use Rattle.ks_script.specs.Lines.{lines_of, FirstBad, Begins, text_of, ended}
 pub use Rattle.ks_script.specs.Numeral.{NoDigit}
-pub use Rattle.ks_script.specs.Reading.{Answers, Gives}
+pub use Rattle.ks_script.specs.Reading.{Answers, Gives, Refuses, Says}
 pub use Rattle.ks_script.specs.Reads.{Lines, NotFirst, Reads, RefusedBehind, NoneFirst, BeginsWith}
 pub use Rattle.ks_script.specs.Run.{pair_line, Run, run_lines, reply_word, reply_line, pair_words, part_line, stop_line, said_lines, callers_from, map_lines, run_text}
 pub use Rattle.ks_script.specs.SaidLeft.{CanBeSaidOf, IsSaidOf, IsReplyOf, next_end, IsPartFrom, BeginsSaid}
@@ -32,6 +32,7 @@ pub use Rattle.ks_script.specs.RunLeft.{SpellsRun, AreRun, Replies, next_key, Is
 pub use Rattle.ks_script.specs.Script.{IsLineOf, line_text, IsScript, script_lines, SpellsScript, AreScript, calls_in, parts_of, parts_in}
 pub use Rattle.ks_script.specs.Version.{version_line, value_limit, callers_limit}
 pub use Rattle.ks_script.specs.declared.fault.TextFault.{TextFault}
+pub use Rattle.ks_script.specs.declared.fault.RunFault.{RunFault}
 pub use Rattle.ks_script.specs.declared.fault.TextFault.TheVariants.{Refused, Memory}
 pub use Rattle.ks_script.specs.declared.version.Version.{Version}
 pub use Rattle.ks_script.specs.declared.version.Version.TheVariants.{First, Second, Third, Fourth}

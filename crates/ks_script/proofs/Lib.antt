@@ -20,4 +20,5 @@ pub mod Spelled
 pub mod Rows
 pub mod Packing
 pub mod Unserved
+pub mod Refusals
 pub mod Padding

@@ -1,6 +1,7 @@
 -- Runs as lines: how they are read back, and where a text stops to be one.
-use Rattle.ks_script.proofs.Common.{ℕ, ◌≡◌, ◌+◌, ◌-◌, ◌<◌, List, [], ◌∷◌, ◌++◌, length, map, take, drop, codes, refl, sym, ap, subst, ◌∙◌, append_assoc, append-nil, arith, length-append, false≢true, Ok, Err, Result, decimal, AllByRecursion, Line, Call, Scan, Said, Whole, Nothing, TextFault, Refused, Memory, lines_of, FirstBad, Run, run_lines, pair_line, said_lines, callers_from, map_lines, IsSaid, AscendFrom, IsRunOf, Lines, NotFirst, NoneFirst, Reads, CanBeSaidOf, IsSaidOf, BeginsSaid, Replies, BeginsReplies, BeginsWith, Begins, ◌⊎◌, inl, inr, take-append-drop, get_or, get_or_default, length-take-le, next_key, IsPairFrom, SpellsRun, AreRun, Answers, flat_map, flat_map-append, MayAnswer, AllBoth}
+use Rattle.ks_script.proofs.Common.{ℕ, ◌≡◌, ◌+◌, ◌-◌, ◌<◌, List, [], ◌∷◌, ◌++◌, length, map, take, drop, codes, refl, sym, ap, subst, ◌∙◌, append_assoc, append-nil, arith, length-append, false≢true, Ok, Err, Result, decimal, AllByRecursion, Line, Call, Scan, Said, Whole, Nothing, RunFault, lines_of, FirstBad, Run, run_lines, pair_line, said_lines, callers_from, map_lines, IsSaid, AscendFrom, IsRunOf, Lines, NotFirst, NoneFirst, Reads, CanBeSaidOf, IsSaidOf, BeginsSaid, Replies, BeginsReplies, BeginsWith, Begins, ◌⊎◌, inl, inr, take-append-drop, get_or, get_or_default, length-take-le, next_key, IsPairFrom, SpellsRun, AreRun, flat_map, flat_map-append, MayAnswer, AllBoth}
 use Rattle.std.specs.Result.{IsErr, IsErrAnd}
+use Rattle.ks_script.specs.declared.fault.RunFault.TheVariants as run
 use Rattle.ks_lines.specs.declared.Said.TheVariants as said
 use Rattle.ks_script.proofs.Numerals.{wide}
 use Rattle.ks_script.proofs.CallLines.{one_pair}
@@ -256,11 +257,6 @@ pub one_run_of : (script : List (List Line)) (run other : Run) (ls : Lines) → 
 one_run_of script run other ls h k = (one_run script run.callers (said_of script run h.is) run.pairs other [] h.is.ascend (subst (SpellsRun script other) (h.lines_are ∙ sym (append-nil (run_lines run))) k)).0
 
 -- the fault of a part, which is that of the whole
-pub same_fault : {X : Type 0} (r : Result X TextFault) (f : TextFault) (n : ℕ) → IsErr r × IsErrAnd r (λ e. e ≡ f) → r ≡ Err (Refused n) → f ≡ Refused n
+pub same_fault : {X : Type 0} (r : Result X RunFault) (f : RunFault) (n : ℕ) → IsErr r × IsErrAnd r (λ e. e ≡ f) → r ≡ Err (run.Refused n) → f ≡ run.Refused n
 same_fault (Ok x) f n h e = absurd (false≢true h.0)
-same_fault (Err g) f n h e = let is : g ≡ Refused n = cc in sym h.1 ∙ is
-
-pub fault_answers : {X : Type 0} (r : Result X TextFault) (f : TextFault) (IsText : X → Type 0) (IsBad : ℕ → Type 0) → IsErr r × IsErrAnd r (λ e. e ≡ f) → ((n : ℕ) → f ≡ Refused n → IsBad n) → Answers r IsText IsBad
-fault_answers (Ok x) f IsText IsBad h bad = absurd (false≢true h.0)
-fault_answers (Err (Refused n)) f IsText IsBad h bad = bad n (sym h.1)
-fault_answers (Err Memory) f IsText IsBad h bad = tt
+same_fault (Err g) f n h e = let is : g ≡ run.Refused n = cc in sym h.1 ∙ is

@@ -5,6 +5,8 @@ use Rattle.ks_script.proofs.Leading.{reads_on, reads_all, first_same, refused_at
 use Rattle.ks_script.proofs.CallLines.{first, wide_line, spelled, one_line}
 use Rattle.ks_script.proofs.Lined.{no_more}
 use Rattle.ks_script.proofs.Steps.{all_right}
+use Rattle.ks_script.specs.Reasons.{Amiss, IsReason}
+use Rattle.ks_script.specs.declared.reasons.Reason.{Reason}
 
 abbrev pub EachOf : Version → List (List Line) → Type 0
 EachOf v script = AllByRecursion (AllByRecursion (IsLineOf v)) script
@@ -116,6 +118,9 @@ stops_same v all a b e h = first_same (Stops v all) (λ l ls more s. record { be
 module _ (v : Version) (all : List (List Line)) (bytes rest : List ℕ) (n : ℕ) (read : Reads (version_line v ++ script_lines all) bytes rest n) (is : IsScript v all) where
   nothing_more : (w : Version) (s : List (List Line)) (ls : Lines) → Stops v all ls → SpellsScript w s ((version_line v ++ script_lines all) ++ ls) → (s ≡ all) × (ls ≡ [])
   nothing_more w s ls stops h = stuck v all w s [] ls is h.is alone stops (h.lines_are ∙ ap (λ (ls : Lines). version_line w ++ ls) (sym (append-nil (script_lines s))))
+
+  pub reason : (why : Reason) → Amiss v (length all) (calls_in all) (65536 - parts_in all) (lines_of rest) why → IsReason (lines_of bytes) (n + 1) why
+  reason why amiss = record { version = v; script = all; more = lines_of rest; is = is; lines_are = read.lines_are; place = omega (arith, read.counted); amiss = amiss }
 
   pub whole_script : rest ≡ [] → SpellsScript v all (lines_of bytes)
   whole_script end = record { is = is; lines_are = reads_all (version_line v ++ script_lines all) bytes rest n read end }

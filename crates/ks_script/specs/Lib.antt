@@ -10,6 +10,8 @@ pub mod Unserved
 pub mod Run
 pub mod Plain
 pub mod Reading
+pub mod Reasons
+pub mod Misfits
 pub mod Checked
 pub mod CheckedTexts
 pub mod Digits

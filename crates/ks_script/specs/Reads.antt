@@ -2,6 +2,7 @@
 use Rattle.std.specs.Prelude.{ℕ, ◌≡◌, ◌+◌, List, [], ◌∷◌, ◌++◌, length}
 use Rattle.ks_script.specs.Lines.{lines_of, FirstBad}
 
+-- lines without their ends
 abbrev pub Lines : Type 0
 Lines = List (List ℕ)
 

@@ -9,6 +9,7 @@ use Rattle.ks_script.specs.Checked.{IsRunOf}
 use Rattle.ks_script.specs.Reads.{Lines, BeginsWith}
 use Rattle.ks_script.specs.SaidLeft.{IsSaidOf}
 
+-- what a printed run says of the lines of one caller
 abbrev pub Replies : Type 0
 Replies = List Said
 

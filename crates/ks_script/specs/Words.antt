@@ -28,12 +28,13 @@ pub use Rattle.ks_script.specs.PackedCalls.{IsCallIn, KeepsCalls, call_in}
 pub use Rattle.ks_script.specs.PackedReplies.{IsSaidIn, KeepsReplies, said_at, said_in}
 pub use Rattle.ks_script.specs.Pieces.{Holds, Puts, Takes}
 pub use Rattle.ks_script.specs.Plain.{IsOfCall, IsPlain, IsPrintable, number_of}
-pub use Rattle.ks_script.specs.Reading.{Answers, Gives}
+pub use Rattle.ks_script.specs.Reading.{Answers, Gives, Refuses, Says}
 pub use Rattle.ks_script.specs.Reads.{NoneFirst, NotFirst, Reads, RefusedBehind}
+pub use Rattle.ks_script.specs.Reasons.{Amiss, IsCheckedReason, IsReason}
 pub use Rattle.ks_script.specs.Run.{Run, callers_from, map_lines, pair_line, pair_words, part_line, reply_line, reply_word, run_lines, run_text, said_lines, stop_line}
 pub use Rattle.ks_script.specs.RunLeft.{AreRun, BeginsReplies, IsPairFrom, SpellsRun, next_key}
 pub use Rattle.ks_script.specs.SaidLeft.{BeginsSaid, CanBeSaidOf, IsPartFrom, IsReplyOf, IsSaidOf}
-pub use Rattle.ks_script.specs.Script.{IsLineOf, IsScript, ScriptOf, line_text, parts_of, script_lines}
+pub use Rattle.ks_script.specs.Script.{IsLineOf, IsScript, ScriptOf, calls_in, line_text, parts_in, parts_of, script_lines}
 pub use Rattle.ks_script.specs.ScriptTexts.{FirstBadOfScript, ScriptIn}
 pub use Rattle.ks_script.specs.Unfit.{IsUnfitAt}
 pub use Rattle.ks_script.specs.Unserved.{FirstUnserved}

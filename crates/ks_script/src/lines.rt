@@ -35,9 +35,9 @@ fn exchange(bytes: &[u8]) -> Option<(u64, u128, u128, &[u8])>
     Some((key, old, new, rest))
 }
 
-// A line of any version, except its end.
+/// A line of any version, except its end.
 #[inline(always)]
-fn any_line(bytes: &[u8]) -> Option<(Line, &[u8])>
+pub fn any_line(bytes: &[u8]) -> Option<(Line, &[u8])>
     ensures some { IfSome result
         (λ x. HasLine x.0 × (bytes.now ≡ line_text x.0 ++ x.1.now) × NoDigit x.1.now) }
     ensures none { IfNone result ((line : Line) (rest : List ℕ) → HasLine line → NoDigit rest →

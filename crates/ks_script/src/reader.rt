@@ -1,10 +1,11 @@
 //! The script at the front of a text: callers with their lines, as far as these go.
 
-ghost use Rattle.std.specs.Prelude.{◌≡◌, ◌≤◌, ◌<◌, ◌+◌, ◌++◌, length, map, IfOk};
-ghost use Rattle.ks_script.specs.Words.{sum_by, AllByRecursion, lines_of, IsLineOf, IsScript, line_text, script_lines, parts_of, NoneFirst, Reads, HasBegun, IsLineWithin, Stops, version_line};
+ghost use Rattle.std.specs.Prelude.{◌≡◌, ◌≤◌, ◌<◌, ◌+◌, ◌-◌, ◌++◌, length, map, IfOk};
+ghost use Rattle.ks_script.specs.Words.{sum_by, AllByRecursion, lines_of, IsLineOf, IsScript, line_text, script_lines, parts_of, NoneFirst, Reads, HasBegun, IsLineWithin, Stops, version_line, calls_in, parts_in, Amiss};
 
 use crate::Calls;
 use crate::lines::{first_line, word_line};
+use crate::reasons::{Reason, why};
 use crate::version::Version;
 use ks_lines::Line;
 use std::alloc::{AllocError, Global};
@@ -52,17 +53,39 @@ pub fn calls(
 }
 
 // How many calls a script may have, and how many parts they may ask for.
-const MOST_CALLS: usize = 1_048_576;
+pub const MOST_CALLS: usize = 1_048_576;
 
 const MOST_PARTS: u32 = 65_536;
 
-/// The script at the front of a text: its version, its callers, how many lines it takes, and the bytes after it.
+/// The script at the front of a text: its version, its callers, how many calls they have, for how many parts more they may
+/// ask, how many lines it takes, and the bytes after it.
 #[derive(Drop)]
 pub struct Front<'a> {
     pub version: Version,
     pub callers: Vec<Calls>,
+    pub calls: usize,
+    pub parts: u32,
     pub lines: u64,
     pub rest: &'a [u8],
+}
+
+impl Front<'_> {
+    /// Why the line after it does not go on with it.
+    pub fn why(&self) -> Reason
+        requires calls { self.now.calls ≡ calls_in self.now.callers.items }
+        requires parts { self.now.parts ≡ 65536 - parts_in self.now.callers.items }
+        requires stops { Stops self.now.version self.now.callers.items (lines_of self.now.rest.now) }
+        ensures { Amiss self.now.version (length self.now.callers.items) (calls_in self.now.callers.items)
+            (65536 - parts_in self.now.callers.items) (lines_of self.now.rest.now) result }
+    {
+        why(
+            self.version,
+            self.callers.len(),
+            self.calls,
+            self.parts,
+            self.rest,
+        )
+    }
 }
 
 // The version that the first line says, how many lines do so, and the bytes after them.
@@ -90,26 +113,29 @@ pub fn callers(alloc: Global, bytes: &[u8]) -> Result<Front<'_>, AllocError>
         (λ f. Reads (version_line f.version ++ script_lines f.callers.items) bytes.now f.rest.now f.lines) }
     ensures stops { IfOk result (λ f. Stops f.version f.callers.items (lines_of f.rest.now)) }
     ensures few { IfOk result (λ f. f.lines ≤ 1 + 1024 + 1048576) }
+    ensures calls { IfOk result (λ f. f.calls ≡ calls_in f.callers.items) }
+    ensures parts { IfOk result (λ f. f.parts ≡ 65536 - parts_in f.callers.items) }
 {
     let (version, lines, rest) = version_of(bytes);
     let mut front = Front {
         version,
         callers: Vec::new(alloc),
+        calls: 0,
+        parts: MOST_PARTS,
         lines,
         rest,
     };
-    let mut count = 0;
-    let mut parts = MOST_PARTS;
     'callers: while front.callers.len() < front.version.most_callers() {
         let Some(more) = word_line(front.rest, b"caller") else {
             return Ok(front);
         };
-        let (lines, behind, left) = calls(alloc, front.version, more, MOST_CALLS - count, parts)?;
-        count += lines.len();
+        let room = MOST_CALLS - front.calls;
+        let (lines, behind, left) = calls(alloc, front.version, more, room, front.parts)?;
+        front.calls += lines.len();
         front.lines += 1 + lines.len() as u64;
         front.callers.push(lines)?;
         front.rest = behind;
-        parts = left;
+        front.parts = left;
     }
     Ok(front)
 }

@@ -1,11 +1,12 @@
 //! A printed run of a script, read off the front of a text.
 
 ghost use Rattle.std.specs.Prelude.{ℕ, ◌≡◌, ◌≤◌, ◌<◌, ◌+◌, ◌^◌, length, map, IfOk, Err};
-ghost use Rattle.ks_script.specs.Words.{flat_map, AllByRecursion, AllBoth, lines_of, said_lines, callers_from, pair_line, AscendFrom, Answers, NoneFirst, Reads, RefusedBehind, CanBeSaidOf, IsSaidOf, BeginsSaid, SpellsRun, AreRun, BeginsReplies, IsPairFrom, next_key};
+ghost use Rattle.ks_script.specs.Words.{flat_map, AllByRecursion, AllBoth, lines_of, said_lines, callers_from, pair_line, AscendFrom, NoneFirst, Reads, RefusedBehind, CanBeSaidOf, IsSaidOf, BeginsSaid, SpellsRun, AreRun, BeginsReplies, IsPairFrom, next_key};
 
+use crate::fault::RunFault;
 use crate::lines::{numbered_line, pair, reply, word_line};
 use crate::scan_lines::scan_said;
-use crate::{Calls, Printed, Replies, TextFault};
+use crate::{Calls, Printed, Replies};
 use ks_lines::{Line, Said};
 use std::alloc::{AllocError, Global};
 
@@ -17,19 +18,19 @@ fn said<'a>(
     line: Line,
     bytes: &'a [u8],
     before: u64,
-) -> Result<(Said, &'a [u8], u64), TextFault>
+) -> Result<(Said, &'a [u8], u64), RunFault>
     requires line { CanBeSaidOf line }
     requires few { before + length bytes.now + 1 < 2 ^ 64 }
     ensures said { IfOk result (λ x. IsSaidOf line x.0) }
     ensures reads { IfOk result (λ x. Reads (said_lines x.0) bytes.now x.1.now x.2) }
     ensures shorter { IfOk result (λ x. length x.1.now + x.2 ≤ length bytes.now) }
-    ensures refused { (n : ℕ) → result ≡ Err (TextFault.Refused n) →
+    ensures refused { (n : ℕ) → result ≡ Err (RunFault.Refused n) →
         RefusedBehind before (BeginsSaid line) (lines_of bytes.now) n }
 {
     match line {
         Line::Call(op) => match reply(op, bytes) {
             Some((told, rest)) => Ok((Said::Call(told.0, told.1), rest, 1)),
-            None => Err(TextFault::Refused { line: before + 1 }),
+            None => Err(RunFault::Refused { line: before + 1 }),
         },
         Line::Scan(low, last, most) => scan_said(alloc, low, last, most, bytes, before),
     }
@@ -42,13 +43,13 @@ fn replies<'a>(
     lines: &Calls,
     bytes: &'a [u8],
     before: u64,
-) -> Result<(Replies, &'a [u8], u64), TextFault>
+) -> Result<(Replies, &'a [u8], u64), RunFault>
     requires lines { AllByRecursion CanBeSaidOf lines.now }
     requires few { before + length bytes.now + 1 < 2 ^ 64 }
     ensures fit { IfOk result (λ x. AllBoth IsSaidOf lines.now x.0) }
     ensures reads { IfOk result (λ x. Reads (flat_map said_lines x.0) bytes.now x.1.now x.2) }
     ensures shorter { IfOk result (λ x. length x.1.now + x.2 ≤ length bytes.now) }
-    ensures refused { (n : ℕ) → result ≡ Err (TextFault.Refused n) →
+    ensures refused { (n : ℕ) → result ≡ Err (RunFault.Refused n) →
         RefusedBehind before (BeginsReplies lines.now) (lines_of bytes.now) n }
 {
     let mut replies = Replies::with_capacity(alloc, lines.len())?;
@@ -70,13 +71,13 @@ fn answers<'a>(
     script: &[Calls],
     bytes: &'a [u8],
     before: u64,
-) -> Result<(Vec<Replies>, &'a [u8], u64), TextFault>
+) -> Result<(Vec<Replies>, &'a [u8], u64), RunFault>
     requires script { AllByRecursion (AllByRecursion CanBeSaidOf) script.now }
     requires few { before + length bytes.now + 1 < 2 ^ 64 }
     ensures fit { IfOk result (λ x. AllBoth (AllBoth IsSaidOf) script.now x.0.items) }
     ensures reads { IfOk result (λ x. Reads (callers_from 0 x.0.items) bytes.now x.1.now x.2) }
     ensures shorter { IfOk result (λ x. length x.1.now + x.2 ≤ length bytes.now) }
-    ensures refused { (n : ℕ) → result ≡ Err (TextFault.Refused n) →
+    ensures refused { (n : ℕ) → result ≡ Err (RunFault.Refused n) →
         RefusedBehind before (AreRun script.now) (lines_of bytes.now) n }
 {
     let mut callers = Vec::new(alloc);
@@ -85,7 +86,7 @@ fn answers<'a>(
     'callers: for (number, lines) in script.iter().enumerate() {
         let line = before + (count + 1);
         let Some(more) = numbered_line(rest, b"caller ", number as u64) else {
-            return Err(TextFault::Refused { line });
+            return Err(RunFault::Refused { line });
         };
         let (said, left, read) = replies(alloc, lines, more, line)?;
         callers.push(said)?;
@@ -121,24 +122,25 @@ fn pairs(alloc: Global, bytes: &[u8]) -> Result<(Vec<(u64, u128)>, &[u8]), Alloc
 
 /// The run of the script that the bytes are the text of, or the first line that does not fit. `before` lines are before
 /// the first.
-pub fn run(alloc: Global, script: &[Calls], bytes: &[u8], before: u64) -> Result<Printed, TextFault>
+pub fn run(alloc: Global, script: &[Calls], bytes: &[u8], before: u64) -> Result<Printed, RunFault>
     requires script { AllByRecursion (AllByRecursion CanBeSaidOf) script.now }
     requires few { before + length bytes.now + 1 < 2 ^ 64 }
-    ensures { Answers result (λ run. SpellsRun script.now run (lines_of bytes.now))
-        (RefusedBehind before (AreRun script.now) (lines_of bytes.now)) }
+    ensures run { IfOk result (λ run. SpellsRun script.now run (lines_of bytes.now)) }
+    ensures refused { (n : ℕ) → result ≡ Err (RunFault.Refused n) →
+        RefusedBehind before (AreRun script.now) (lines_of bytes.now) n }
 {
     let (callers, rest, count) = answers(alloc, script, bytes, before)?;
     let line = before + (count + 1);
     let Some(text) = word_line(rest, b"map") else {
-        return Err(TextFault::Refused { line });
+        return Err(RunFault::Refused { line });
     };
     let (pairs, left) = pairs(alloc, text)?;
     let line = line + pairs.len() as u64 + 1;
     let Some(end) = word_line(left, b"end") else {
-        return Err(TextFault::Refused { line });
+        return Err(RunFault::Refused { line });
     };
     if !end.is_empty() {
-        return Err(TextFault::Refused { line: line + 1 });
+        return Err(RunFault::Refused { line: line + 1 });
     }
     Ok(Printed { callers, pairs })
 }

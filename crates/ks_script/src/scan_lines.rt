@@ -3,7 +3,7 @@
 ghost use Rattle.std.specs.Prelude.{ℕ, ◌≡◌, ◌≢◌, ◌≤◌, ◌<◌, ◌+◌, ◌^◌, List, ◌∷◌, ◌++◌, length, codes, IfOk, IfSome, IfNone, Err};
 ghost use Rattle.ks_script.specs.Words.{AllByRecursion, Pair, Part, Scan, lines_of, NoDigit, Lined, NotLined, pair_line, pair_words, part_line, said_lines, IsPair, IsPart, NoneFirst, Reads, RefusedBehind, CanBeSaidOf, IsSaidOf, IsPartFrom, BeginsSaid};
 
-use crate::TextFault;
+use crate::fault::RunFault;
 use crate::lexer::{line_end, number, spaced, word};
 use crate::lines::{numbered_line, word_line};
 use ks_keysets::{Few, Pair};
@@ -84,13 +84,13 @@ pub fn scan_said<'a>(
     most: u32,
     bytes: &'a [u8],
     before: u64,
-) -> Result<(Said, &'a [u8], u64), TextFault>
+) -> Result<(Said, &'a [u8], u64), RunFault>
     requires scan { CanBeSaidOf (Scan low last most) }
     requires few { before + length bytes.now + 1 < 2 ^ 64 }
     ensures said { IfOk result (λ x. IsSaidOf (Scan low last most) x.0) }
     ensures reads { IfOk result (λ x. Reads (said_lines x.0) bytes.now x.1.now x.2) }
     ensures shorter { IfOk result (λ x. length x.1.now + x.2 ≤ length bytes.now) }
-    ensures refused { (n : ℕ) → result ≡ Err (TextFault.Refused n) →
+    ensures refused { (n : ℕ) → result ≡ Err (RunFault.Refused n) →
         RefusedBehind before (BeginsSaid (Scan low last most)) (lines_of bytes.now) n }
 {
     let mut parts = Vec::new(alloc);
@@ -99,14 +99,14 @@ pub fn scan_said<'a>(
     'parts: while parts.len() < most as usize {
         let Some((part, more)) = part(next, last, rest) else {
             let line = before + parts.len() as u64 + 1;
-            return Err(TextFault::Refused { line });
+            return Err(RunFault::Refused { line });
         };
         let end = part.last;
         parts.push(part)?;
         if end == last {
             let count = parts.len() as u64 + 1;
             let Some(left) = word_line(more, b"whole") else {
-                return Err(TextFault::Refused {
+                return Err(RunFault::Refused {
                     line: before + count,
                 });
             };
@@ -117,7 +117,7 @@ pub fn scan_said<'a>(
     }
     let count = parts.len() as u64 + 1;
     let Some(left) = numbered_line(rest, b"until ", next) else {
-        return Err(TextFault::Refused {
+        return Err(RunFault::Refused {
             line: before + count,
         });
     };

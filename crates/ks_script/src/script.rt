@@ -1,7 +1,7 @@
 //! Scripts: for each caller the lines that say what it asks for, in order.
 
-ghost use Rattle.std.specs.Prelude.{ℕ, Ok, Err, List};
-ghost use Rattle.ks_script.specs.Words.{Line, ScriptOf, FirstBadOfScript, Answers, Gives};
+ghost use Rattle.std.specs.Prelude.{ℕ, Ok, List};
+ghost use Rattle.ks_script.specs.Words.{Line, ScriptOf, FirstBadOfScript, Answers, Gives, IsReason, Refuses, Says, lines_of};
 
 use crate::reader::callers;
 use crate::{Calls, TextFault};
@@ -23,17 +23,19 @@ impl Model for Script {
     ghost view = { λ s. s.callers.items };
 }
 
-/// The script, of whichever version, that the bytes are the text of, or the first line that does not fit.
+/// The script, of whichever version, that the bytes are the text of, or the first line that does not fit, with the reason.
 pub fn read_script(alloc: Global, bytes: &[u8]) -> Result<Script, TextFault>
     ensures answer { Answers result (ScriptOf bytes.now) (FirstBadOfScript bytes.now) }
     // What is a script is read, and a line that does not fit is refused, unless memory runs out.
     ensures script { (script : List (List Line)) → ScriptOf bytes.now script → Gives result (Ok script) }
-    ensures refused { (n : ℕ) → FirstBadOfScript bytes.now n → Gives result (Err (TextFault.Refused n)) }
+    ensures refused { (n : ℕ) → FirstBadOfScript bytes.now n → Refuses result n }
+    ensures why { Says result (IsReason (lines_of bytes.now)) }
 {
     let front = callers(alloc, bytes)?;
     if !front.rest.is_empty() {
         return Err(TextFault::Refused {
             line: front.lines + 1,
+            why: front.why(),
         });
     }
     Ok(Script {

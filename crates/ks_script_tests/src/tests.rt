@@ -9,28 +9,28 @@ use std::test::*;
 
 mod scans;
 
-/// Whether a script is refused at this line.
-fn is_refused(alloc: Global, text: &[u8], line: u64) -> bool {
-    read_script(alloc, text).err() == Some(TextFault::Refused { line })
+/// Whether a script is refused at this line, for this reason.
+fn is_refused(alloc: Global, text: &[u8], line: u64, why: Reason) -> bool {
+    read_script(alloc, text).err() == Some(TextFault::Refused { line, why })
 }
 
-/// Whether a script with its run is refused at this line.
-fn is_refused_in_check(alloc: Global, text: &[u8], line: u64) -> bool {
-    read_checked(alloc, text).err() == Some(TextFault::Refused { line })
+/// Whether a script with its run is refused at this line, for this reason.
+fn is_refused_in_check(alloc: Global, text: &[u8], line: u64, why: Reason) -> bool {
+    read_checked(alloc, text).err() == Some(TextFault::Refused { line, why })
 }
 
-/// Each script is refused, at its line.
-fn are_refused(rt: &impl Abort, alloc: Global, rows: &[(&str, u64)]) {
-    for (text, line) in rows {
-        assert!(rt; is_refused(alloc, text.as_bytes(), *line), "{text:?}");
+/// Each script is refused, at its line and for its reason.
+fn are_refused(rt: &impl Abort, alloc: Global, rows: &[(&str, u64, Reason)]) {
+    for (text, line, why) in rows {
+        assert!(rt; is_refused(alloc, text.as_bytes(), *line, *why), "{text:?}");
     }
 }
 
-/// Each script with its run is refused, at its line.
-fn are_refused_in_check(rt: &impl Abort, alloc: Global, rows: &[(&str, u64)]) {
-    for (text, line) in rows {
+/// Each script with its run is refused, at its line and for its reason.
+fn are_refused_in_check(rt: &impl Abort, alloc: Global, rows: &[(&str, u64, Reason)]) {
+    for (text, line, why) in rows {
         assert!(rt;
-            is_refused_in_check(alloc, text.as_bytes(), *line),
+            is_refused_in_check(alloc, text.as_bytes(), *line, *why),
             "{text:?}"
         );
     }
@@ -113,17 +113,35 @@ fn a_script_is_read_without_its_last_end(rt: HostRuntime) {
 }
 
 /// Lines of no script, each with the number of the line.
-const NO_LINES: [(&str, u64); 10] = [
-    ("caller\nput  1 2\n", 2),
-    ("caller\nput 1\n", 2),
-    ("caller\nget 1 \n", 2),
-    ("caller\n\n", 2),
-    ("caller\nget -1\n", 2),
-    ("caller\nget 00\n", 2),
-    ("caller\nget 1\r\n", 2),
-    ("caller\nput 1 18446744073709551616\n", 2),
-    ("put 1 2\ncaller\n", 1),
-    ("CALLER\n", 1),
+const NO_LINES: [(&str, u64, Reason); 16] = [
+    ("caller\nput  1 2\n", 2, Reason::NoNumber),
+    ("caller\nput 1\n", 2, Reason::MissingWord),
+    ("caller\nput\n", 2, Reason::MissingWord),
+    ("caller\nget 1 \n", 2, Reason::ExtraWord),
+    ("caller\nget 1 2 03\n", 2, Reason::ExtraWord),
+    ("caller 0\n", 1, Reason::ExtraWord),
+    ("caller\n\n", 2, Reason::UnknownWord),
+    ("caller\n put 1 2\n", 2, Reason::UnknownWord),
+    ("caller\nget -1\n", 2, Reason::NoNumber),
+    ("caller\nget 00\n", 2, Reason::NoNumber),
+    ("caller\nget 1\r\n", 2, Reason::NoNumber),
+    (
+        "caller\nput 01 18446744073709551616 5\n",
+        2,
+        Reason::NoNumber,
+    ),
+    (
+        "caller\nput 1 18446744073709551616\n",
+        2,
+        Reason::OutOfRange,
+    ),
+    (
+        "caller\nput 18446744073709551616 x\n",
+        2,
+        Reason::OutOfRange,
+    ),
+    ("put 1 2\ncaller\n", 1, Reason::NoCaller),
+    ("CALLER\n", 1, Reason::UnknownWord),
 ];
 
 #[test]
@@ -178,26 +196,46 @@ fn numbers_of_all_lengths_are_read(rt: HostRuntime) {
 }
 
 /// Numbers that are none or too great. Sixteen bytes follow each of them, so that it is read by words.
-const NO_NUMBERS: [(&str, u64); 8] = [
+const NO_NUMBERS: [(&str, u64, Reason); 8] = [
     (
         "caller\nget 18446744073709551616\ncaller\ncaller\ncaller\n",
         2,
+        Reason::OutOfRange,
     ),
-    ("caller\nget 00000000000000001\ncaller\ncaller\ncaller\n", 2),
-    ("caller\nput 1 00\ncaller\ncaller\ncaller\n", 2),
-    ("caller\nget 123:\ncaller\ncaller\ncaller\n", 2),
+    (
+        "caller\nget 00000000000000001\ncaller\ncaller\ncaller\n",
+        2,
+        Reason::NoNumber,
+    ),
+    (
+        "caller\nput 1 00\ncaller\ncaller\ncaller\n",
+        2,
+        Reason::NoNumber,
+    ),
+    (
+        "caller\nget 123:\ncaller\ncaller\ncaller\n",
+        2,
+        Reason::NoNumber,
+    ),
     (
         "caller\nput 1 18446744073709551616\ncaller\ncaller\ncaller\n",
         2,
+        Reason::OutOfRange,
     ),
-    ("caller\nswap 1 2 3\ncaller\ncaller\ncaller\n", 2),
+    (
+        "caller\nswap 1 2 3\ncaller\ncaller\ncaller\n",
+        2,
+        Reason::OtherVersion,
+    ),
     (
         "script 2\ncaller\nput 1 340282366920938463463374607431768211456\ncaller\ncaller\n",
         3,
+        Reason::OutOfRange,
     ),
     (
         "script 2\ncaller\nput 1 1000000000000000000000000000000000000000\ncaller\ncaller\n",
         3,
+        Reason::OutOfRange,
     ),
 ];
 
@@ -207,21 +245,26 @@ fn numbers_that_are_none_are_refused_before_other_lines(rt: HostRuntime) {
 }
 
 /// Lines that the version of the script does not have, and numbers that are too great for it.
-const OTHER_VERSION: [(&str, u64); 11] = [
-    ("caller\nadd 5 1\n", 2),
-    ("caller\nswap 5 1 2\n", 2),
-    ("caller\nscript 2\n", 2),
-    ("script 9\n", 1),
-    ("script 1\ncaller\n", 1),
-    ("script 2\nscript 2\n", 2),
-    ("script 2\nput 1 1\n", 2),
+const OTHER_VERSION: [(&str, u64, Reason); 11] = [
+    ("caller\nadd 5 1\n", 2, Reason::OtherVersion),
+    ("caller\nswap 5 1 2\n", 2, Reason::OtherVersion),
+    ("caller\nscript 2\n", 2, Reason::VersionLine),
+    ("script 9\n", 1, Reason::VersionLine),
+    ("script 1\ncaller\n", 1, Reason::VersionLine),
+    ("script 2\nscript 2\n", 2, Reason::VersionLine),
+    ("script 2\nput 1 1\n", 2, Reason::NoCaller),
     (
         "script 2\ncaller\nput 1 340282366920938463463374607431768211456\n",
         3,
+        Reason::OutOfRange,
     ),
-    ("script 2\ncaller\nget 18446744073709551616\n", 3),
-    ("script 2\ncaller\nswap 1 2\n", 3),
-    ("script 2\ncaller\nadd 1 2 3\n", 3),
+    (
+        "script 2\ncaller\nget 18446744073709551616\n",
+        3,
+        Reason::OutOfRange,
+    ),
+    ("script 2\ncaller\nswap 1 2\n", 3, Reason::MissingWord),
+    ("script 2\ncaller\nadd 1 2 3\n", 3, Reason::ExtraWord),
 ];
 
 #[test]
@@ -262,21 +305,30 @@ fn scans_and_moves_are_read(rt: HostRuntime) {
 }
 
 /// Scans and moves that are none, or none of the version.
-const NO_SCANS: [(&str, u64); 14] = [
-    ("caller\nscan 1 2 3\n", 2),
-    ("script 2\ncaller\nscan 1 2 3\n", 3),
-    ("script 3\ncaller\nscan 5 4 1\n", 3),
-    ("script 3\ncaller\nscan 4 5 0\n", 3),
-    ("script 3\ncaller\nscan 4 5 65\n", 3),
-    ("script 3\ncaller\nscan 4 5\n", 3),
-    ("script 3\ncaller\nscan 4 18446744073709551616 1\n", 3),
-    ("script 3\ncaller\nmove 1 2\n", 3),
-    ("script 4\ncaller\nmove 1 1\n", 3),
-    ("script 4\ncaller\nmove 1\n", 3),
-    ("script 4\ncaller\nmove 1 2 3\n", 3),
-    ("script 4\ncaller\nmove 01 2\n", 3),
-    ("script 4\ncaller\nmove 1 18446744073709551616\n", 3),
-    ("script 3\nscript 4\n", 2),
+const NO_SCANS: [(&str, u64, Reason); 15] = [
+    ("caller\nscan 1 2 3\n", 2, Reason::OtherVersion),
+    ("script 2\ncaller\nscan 1 2 3\n", 3, Reason::OtherVersion),
+    ("script 3\ncaller\nscan 5 4 1\n", 3, Reason::LowAboveLast),
+    ("script 3\ncaller\nscan 4 5 0\n", 3, Reason::OutOfRange),
+    ("script 3\ncaller\nscan 4 5 65\n", 3, Reason::OutOfRange),
+    ("script 3\ncaller\nscan 4 5\n", 3, Reason::MissingWord),
+    (
+        "script 3\ncaller\nscan 4 18446744073709551616 1\n",
+        3,
+        Reason::OutOfRange,
+    ),
+    ("script 3\ncaller\nmove 1 2\n", 3, Reason::OtherVersion),
+    ("script 4\ncaller\nmove 1 1\n", 3, Reason::SameKey),
+    ("script 4\ncaller\nmove 1\n", 3, Reason::MissingWord),
+    ("script 4\ncaller\nmove 1 2 3\n", 3, Reason::ExtraWord),
+    ("script 4\ncaller\nmove 01 2\n", 3, Reason::NoNumber),
+    (
+        "script 4\ncaller\nmove 1 18446744073709551616\n",
+        3,
+        Reason::OutOfRange,
+    ),
+    ("script 3\nscript 4\n", 2, Reason::VersionLine),
+    ("script 3\ncaller\nscan 5 4 0\n", 3, Reason::OutOfRange),
 ];
 
 #[test]
@@ -300,7 +352,7 @@ fn a_script_asks_for_so_many_parts(rt: HostRuntime) -> Result<(), Fail> {
     text.extend_from_slice(b"caller\nscan 0 9 63\nscan 0 9 1\nget 1\n")?;
     assert!(rt; read_script(alloc, &text).is_ok());
     text.extend_from_slice(b"scan 0 9 1\n")?;
-    assert!(rt; is_refused(alloc, &text, 1030));
+    assert!(rt; is_refused(alloc, &text, 1030, Reason::TooManyParts));
     Ok(())
 }
 
@@ -354,7 +406,10 @@ fn have_most_callers(
         let mut text = repeated(alloc, first.as_bytes(), b"caller\n", *callers)?;
         assert!(rt; read_script(alloc, &text).is_ok(), "{first:?}");
         text.extend_from_slice(b"caller\n")?;
-        assert!(rt; is_refused(alloc, &text, *line), "{first:?}");
+        assert!(rt;
+            is_refused(alloc, &text, *line, Reason::TooManyCallers),
+            "{first:?}"
+        );
     }
     Ok(())
 }
@@ -378,11 +433,12 @@ fn a_script_and_its_run_are_read(rt: HostRuntime) -> Result<(), Fail> {
 }
 
 /// A script without its run, and a map with a value that is too great.
-const NO_WIDE_RUNS: [(&str, u64); 2] = [
-    ("script 2\n", 2),
+const NO_WIDE_RUNS: [(&str, u64, Reason); 2] = [
+    ("script 2\n", 2, Reason::MissingLine),
     (
         "run\nmap\n1 340282366920938463463374607431768211456\nend\n",
         3,
+        Reason::NotTheRun,
     ),
 ];
 
@@ -417,11 +473,21 @@ fn replies_full_and_wide_are_read(rt: HostRuntime) -> Result<(), Fail> {
 }
 
 /// Runs that end too early or too late, or whose map names a key twice.
-const NO_RUNS: [(&str, u64); 4] = [
-    ("caller\n", 2),
-    ("caller\nget 1\nrun\ncaller 0\n0 none\nmap\n", 7),
-    ("caller\nget 1\nrun\ncaller 0\n0 none\nmap\nend\nx\n", 8),
-    ("run\nmap\n2 1\n2 1\nend\n", 4),
+const NO_RUNS: [(&str, u64, Reason); 6] = [
+    ("caller\n", 2, Reason::MissingLine),
+    ("caller\nrun 1\n", 2, Reason::UnknownWord),
+    ("run\n", 2, Reason::NotTheRun),
+    (
+        "caller\nget 1\nrun\ncaller 0\n0 none\nmap\n",
+        7,
+        Reason::NotTheRun,
+    ),
+    (
+        "caller\nget 1\nrun\ncaller 0\n0 none\nmap\nend\nx\n",
+        8,
+        Reason::NotTheRun,
+    ),
+    ("run\nmap\n2 1\n2 1\nend\n", 4, Reason::NotTheRun),
 ];
 
 #[test]

@@ -8,7 +8,7 @@ use Rattle.ks_keysets.specs.declared.NodeState.TheVariants.{Live}
 use Rattle.ks_keysets.specs.declared.Kind.{Kind}
 use Rattle.ks_keysets.specs.declared.Kind.TheVariants.{Directory}
 use Rattle.ks_keysets.specs.Keyset.{live_record, record_at}
-use Rattle.ks_keysets.specs.Layout.{Layout, list_layout, bplus_layout, hash_layout, bst_layout}
+use Rattle.ks_keysets.specs.Layout.{Layout}
 use Rattle.ks_keysets.specs.Tight.{capacity}
 use Rattle.ks_flow.specs.Discipline.{BeginsTree, TreeStep}
 use Rattle.ks_history.specs.declared.Event.{Event}
@@ -66,13 +66,7 @@ module _ {N : Type 0} (sort : Sort) (shows : N → Body) where
 
 -- a full body is no directory
 pub no_directory : (layout : Layout) (b : Body) → IsTrue (is_full layout b) → b.kind ≡ Directory → ⊥
-no_directory layout b full e = never layout (load b) (subst (λ (k : Kind). IsTrue (is_full_at (capacity layout k) (load b))) e full)
-  where
-    never : (layout : Layout) (n : ℕ) → IsTrue (is_full_at (capacity layout Directory) n) → ⊥
-    never list_layout n t = absurd (let q : ⊥ = cc in q)
-    never bplus_layout n t = absurd (let q : ⊥ = cc in q)
-    never hash_layout n t = absurd (let q : ⊥ = cc in q)
-    never bst_layout n t = absurd (let q : ⊥ = cc in q)
+no_directory layout b full e = let never : IsTrue (is_full_at (capacity layout Directory) (load b)) = subst (λ (k : Kind). IsTrue (is_full_at (capacity layout k) (load b))) e full in cc
 
 -- what remains whatever others do, from the laws of sound traces
 module _ (sort : Sort) (n c : ℕ) (seen h : List Event) (lawful : (h : List Event) → Sound sort BeginsTree TreeStep n h → Lawful h) (grows : GrowsByOthers c seen h) (before : Sound sort BeginsTree TreeStep n seen) (so : Sound sort BeginsTree TreeStep n h) where

@@ -1,7 +1,7 @@
 //! The trials of each row.
 use crate::meets;
 use crate::trial::Trial;
-use crate::trials::{crowds, full, thinned, wide};
+use crate::trials::{crowds, full, held, thinned, wide};
 use ks_gate::Point;
 use std::alloc::{AllocError, Global};
 
@@ -100,6 +100,80 @@ pub fn tables_under_trees(alloc: Global) -> Result<Vec<Trial>, AllocError> {
 
 pub fn tables_along_links(alloc: Global) -> Result<Vec<Trial>, AllocError> {
     tables(alloc, None)
+}
+
+/// Keys in the order of their places, of which `fits` fill 64 leaves, all but the last half full, and their children the
+/// root. The next key needs a node for a leaf, and two more for the root to grow. Compaction merges the leaves two by two, and
+/// the two branches below the root to one.
+fn wide_roots_under_trees(
+    alloc: Global,
+    all: &mut Vec<Trial>,
+    fits: usize,
+    stride: u64,
+) -> Result<(), AllocError> {
+    let more = fits.saturating_add(1);
+    all.push(full(alloc, 65, fits, stride, ROOT)?)?;
+    all.push(full(alloc, 67, fits, stride, ROOT)?)?;
+    all.push(held(alloc, 68, more, stride, &[], 34, 34)?)?;
+    Ok(())
+}
+
+/// The same along links, where the new leaf may go without an edge: a link leads to it.
+fn wide_roots_along_links(
+    alloc: Global,
+    all: &mut Vec<Trial>,
+    fits: usize,
+    stride: u64,
+) -> Result<(), AllocError> {
+    let more = fits.saturating_add(1);
+    all.push(full(alloc, 65, fits, stride, None)?)?;
+    all.push(held(alloc, 66, more, stride, &[], 66, 0)?)?;
+    all.push(held(alloc, 68, more, stride, &[], 68, 0)?)?;
+    Ok(())
+}
+
+/// Trees whose leaves have 16 pairs, and whose branches have 64 children.
+pub fn wide_trees_under_trees(alloc: Global) -> Result<Vec<Trial>, AllocError> {
+    let mut all = Vec::new(alloc);
+    all.push(wide(alloc, 300, 2000, STRIDE, ROOT)?)?;
+    all.push(full(alloc, 4, 32, 1, ROOT)?)?;
+    all.push(thin_tree(alloc)?)?;
+    wide_roots_under_trees(alloc, &mut all, 520, 1)?;
+    crowds(alloc, &mut all, 6, 1, ROOT)?;
+    Ok(all)
+}
+
+pub fn wide_trees_along_links(alloc: Global) -> Result<Vec<Trial>, AllocError> {
+    let mut all = Vec::new(alloc);
+    all.push(wide(alloc, 300, 2000, STRIDE, None)?)?;
+    all.push(full(alloc, 4, 32, 1, None)?)?;
+    wide_roots_along_links(alloc, &mut all, 520, 1)?;
+    crowds(alloc, &mut all, 6, 1, None)?;
+    Ok(all)
+}
+
+/// Hash tables whose buckets have 32 pairs. The first 33 keys fill two buckets with 16 and 17, of which key 17 is the first.
+pub fn wide_tables_under_trees(alloc: Global) -> Result<Vec<Trial>, AllocError> {
+    let mut all = Vec::new(alloc);
+    all.push(wide(alloc, 80, 1100, 1, ROOT)?)?;
+    all.push(full(alloc, 4, 65, 1, ROOT)?)?;
+    all.push(held(alloc, 4, 33, 1, &[], 3, 0)?)?;
+    all.push(held(alloc, 4, 33, 1, &[0], 1, 0)?)?;
+    all.push(held(alloc, 4, 33, 1, &[17], 1, 2)?)?;
+    wide_roots_under_trees(alloc, &mut all, 1040, SIDE_BY_SIDE)?;
+    crowds(alloc, &mut all, 6, 1, ROOT)?;
+    Ok(all)
+}
+
+pub fn wide_tables_along_links(alloc: Global) -> Result<Vec<Trial>, AllocError> {
+    let mut all = Vec::new(alloc);
+    all.push(wide(alloc, 80, 1100, 1, None)?)?;
+    all.push(full(alloc, 4, 65, 1, None)?)?;
+    all.push(held(alloc, 4, 33, 1, &[0], 3, 0)?)?;
+    all.push(held(alloc, 64, 1100, 1, &[], 61, 0)?)?;
+    wide_roots_along_links(alloc, &mut all, 1040, SIDE_BY_SIDE)?;
+    crowds(alloc, &mut all, 6, 1, None)?;
+    Ok(all)
 }
 
 /// Of four nodes of a binary tree one is the root over two leaves of at most two pairs, and a full leaf needs two more.

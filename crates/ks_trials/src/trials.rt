@@ -180,6 +180,39 @@ pub(crate) fn thinned(
     )
 }
 
+/// The first `many` keys are put and some are deleted: compaction makes `freed` nodes free, and leaves `live`.
+pub(crate) fn held(
+    alloc: Global,
+    nodes: u32,
+    many: usize,
+    stride: u64,
+    deleted: &[usize],
+    live: u64,
+    freed: u64,
+) -> Result<Trial, AllocError> {
+    let mut first = Script::of(alloc, stride);
+    first.fill(many)?;
+    for at in 0..deleted.len() {
+        first.call(deleted[at], Op::Del)?;
+    }
+    let none = Script::of(alloc, stride);
+    let last = Script::of(alloc, stride);
+    let due = Due {
+        live: Some(live),
+        freed: Some(freed),
+        ..WHOLE
+    };
+    gated(
+        alloc,
+        nodes,
+        many,
+        stride,
+        vec![in alloc; first, none, last]?,
+        Vec::new(alloc),
+        due,
+    )
+}
+
 /// Drawn calls of many callers at once over keys that they share; with `grows` most of them put or add.
 fn crowd(
     alloc: Global,

@@ -66,11 +66,15 @@ fn put_along_links<R: Wait>(
 #[test]
 fn a_call_keeps_up_what_its_technique_owes(rt: HostRuntime) -> Result<(), Fail> {
     let (map, mut passes) = Dictionary::<BNode, Coupling>::start(rt.alloc(), 16, 1)?;
+    let put = map.put(&rt, &mut passes[0], 5, 50);
     let deleted = del_by_coupling(&rt, &map, &mut passes[0], 5);
-    assert!(rt; deleted.found.is_none());
+    assert!(rt; put.is_ok());
+    assert_eq!(rt; deleted.found, Some(50));
     let (map, mut passes) = Dictionary::<WithRange<BNode>, GiveUp>::start(rt.alloc(), 16, 1)?;
+    let put = map.put(&rt, &mut passes[0], 5, 50);
     let deleted = del_by_giving_up(&rt, &map, &mut passes[0], 5);
-    assert!(rt; deleted.found.is_none());
+    assert!(rt; put.is_ok());
+    assert_eq!(rt; deleted.found, Some(50));
     let (map, mut passes) = Dictionary::<WithLink<BNode>, LinkMove>::start(rt.alloc(), 16, 1)?;
     let put = put_along_links(&rt, &map, &mut passes[0], 5, 50);
     assert!(rt; matches!(put, Ok(Numbered { found: None, .. })));

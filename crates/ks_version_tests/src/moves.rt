@@ -47,18 +47,42 @@ const RUNS: [(&[u8], &[u8]); 5] = [
 
 /// Scripts, and what is said of them.
 const REFUSALS: [(&[u8], &[u8]); 9] = [
-    (b"script 3\ncaller\nmove 1 2\n", b"line 3 refused\n"),
-    (b"script 2\ncaller\nmove 1 2\n", b"line 3 refused\n"),
-    (b"caller\nmove 1 2\n", b"line 2 refused\n"),
-    (b"script 4\ncaller\nmove 1 1\n", b"line 3 refused\n"),
-    (b"script 4\ncaller\nmove 1\n", b"line 3 refused\n"),
-    (b"script 4\ncaller\nmove 1 2 3\n", b"line 3 refused\n"),
-    (b"script 4\ncaller\nmove 01 2\n", b"line 3 refused\n"),
+    (
+        b"script 3\ncaller\nmove 1 2\n",
+        b"line 3 refused\nthe version of the script has no such line\n",
+    ),
+    (
+        b"script 2\ncaller\nmove 1 2\n",
+        b"line 3 refused\nthe version of the script has no such line\n",
+    ),
+    (
+        b"caller\nmove 1 2\n",
+        b"line 2 refused\nthe version of the script has no such line\n",
+    ),
+    (
+        b"script 4\ncaller\nmove 1 1\n",
+        b"line 3 refused\nFROM and TO are the same key\n",
+    ),
+    (
+        b"script 4\ncaller\nmove 1\n",
+        b"line 3 refused\na word is missing at its end\n",
+    ),
+    (
+        b"script 4\ncaller\nmove 1 2 3\n",
+        b"line 3 refused\na word or a space is too many at its end\n",
+    ),
+    (
+        b"script 4\ncaller\nmove 01 2\n",
+        b"line 3 refused\na word is no number: only digits, no leading zero, one space before it\n",
+    ),
     (
         b"script 4\ncaller\nmove 1 18446744073709551616\n",
-        b"line 3 refused\n",
+        b"line 3 refused\na key or a value is too great, or PARTS is not 1 to 64\n",
     ),
-    (b"script 5\n", b"line 1 refused\n"),
+    (
+        b"script 5\n",
+        b"line 1 refused\nonly the first line says a version: script 2, script 3 or script 4\n",
+    ),
 ];
 
 /// What is checked, and what is said of it, with the status.
@@ -108,7 +132,7 @@ const CHECKS: [(&[u8], &[u8], u8); 10] = [
     // only a move keeps two values
     (
         b"script 4\ncaller\nput 1 10\nrun\ncaller 0\n0 kept\nmap\n1 10\nend\n",
-        b"line 6 refused\n",
+        b"line 6 refused\nfrom it on the lines are no run of the script\n",
         2,
     ),
     (

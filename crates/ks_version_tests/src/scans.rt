@@ -38,19 +38,46 @@ const RUNS: [(&[u8], &[u8]); 6] = [
 
 /// Scripts, and what is said of them.
 const REFUSALS: [(&[u8], &[u8]); 10] = [
-    (b"script 2\ncaller\nscan 0 5 1\n", b"line 3 refused\n"),
-    (b"caller\nscan 0 5 1\n", b"line 2 refused\n"),
-    (b"script 3\nscan 0 5 1\n", b"line 2 refused\n"),
-    (b"script 3\ncaller\nscan 5 4 1\n", b"line 3 refused\n"),
-    (b"script 3\ncaller\nscan 0 5 0\n", b"line 3 refused\n"),
-    (b"script 3\ncaller\nscan 0 5 65\n", b"line 3 refused\n"),
-    (b"script 3\ncaller\nscan 0 5\n", b"line 3 refused\n"),
+    (
+        b"script 2\ncaller\nscan 0 5 1\n",
+        b"line 3 refused\nthe version of the script has no such line\n",
+    ),
+    (
+        b"caller\nscan 0 5 1\n",
+        b"line 2 refused\nthe version of the script has no such line\n",
+    ),
+    (
+        b"script 3\nscan 0 5 1\n",
+        b"line 2 refused\nit comes before the first caller\n",
+    ),
+    (
+        b"script 3\ncaller\nscan 5 4 1\n",
+        b"line 3 refused\nLOW is greater than LAST\n",
+    ),
+    (
+        b"script 3\ncaller\nscan 0 5 0\n",
+        b"line 3 refused\na key or a value is too great, or PARTS is not 1 to 64\n",
+    ),
+    (
+        b"script 3\ncaller\nscan 0 5 65\n",
+        b"line 3 refused\na key or a value is too great, or PARTS is not 1 to 64\n",
+    ),
+    (
+        b"script 3\ncaller\nscan 0 5\n",
+        b"line 3 refused\na word is missing at its end\n",
+    ),
     (
         b"script 3\ncaller\nscan 0 18446744073709551616 1\n",
-        b"line 3 refused\n",
+        b"line 3 refused\na key or a value is too great, or PARTS is not 1 to 64\n",
     ),
-    (b"script 3\ncaller\nmove 1 2\n", b"line 3 refused\n"),
-    (b"script 3\ncaller\nscript 3\n", b"line 3 refused\n"),
+    (
+        b"script 3\ncaller\nmove 1 2\n",
+        b"line 3 refused\nthe version of the script has no such line\n",
+    ),
+    (
+        b"script 3\ncaller\nscript 3\n",
+        b"line 3 refused\nonly the first line says a version: script 2, script 3 or script 4\n",
+    ),
 ];
 
 /// A script of two scans, before the run that is checked.
@@ -100,14 +127,46 @@ const CHECKS: [(&[u8], &[u8], u8); 16] = [
         6,
     ),
     // a line is refused where no run of the script goes on so
-    (b"1 8 3 30\nwhole\n", b"line 10 refused\n", 2),
-    (b"1 8 3 30\nuntil 9\n", b"line 10 refused\n", 2),
-    (b"1 9 3 30\nuntil 10\n", b"line 10 refused\n", 2),
-    (b"1 2\n2 8 3 30\nuntil 8\n", b"line 11 refused\n", 2),
-    (b"1 2\n2 8 3 30\n3 9\n", b"line 11 refused\n", 2),
-    (b"1 10 3 30\n", b"line 9 refused\n", 2),
-    (b"1 4 3 30\n2 4\n", b"line 10 refused\n", 2),
-    (b"1 none\n", b"line 9 refused\n", 2),
+    (
+        b"1 8 3 30\nwhole\n",
+        b"line 10 refused\nfrom it on the lines are no run of the script\n",
+        2,
+    ),
+    (
+        b"1 8 3 30\nuntil 9\n",
+        b"line 10 refused\nfrom it on the lines are no run of the script\n",
+        2,
+    ),
+    (
+        b"1 9 3 30\nuntil 10\n",
+        b"line 10 refused\nfrom it on the lines are no run of the script\n",
+        2,
+    ),
+    (
+        b"1 2\n2 8 3 30\nuntil 8\n",
+        b"line 11 refused\nfrom it on the lines are no run of the script\n",
+        2,
+    ),
+    (
+        b"1 2\n2 8 3 30\n3 9\n",
+        b"line 11 refused\nfrom it on the lines are no run of the script\n",
+        2,
+    ),
+    (
+        b"1 10 3 30\n",
+        b"line 9 refused\nfrom it on the lines are no run of the script\n",
+        2,
+    ),
+    (
+        b"1 4 3 30\n2 4\n",
+        b"line 10 refused\nfrom it on the lines are no run of the script\n",
+        2,
+    ),
+    (
+        b"1 none\n",
+        b"line 9 refused\nfrom it on the lines are no run of the script\n",
+        2,
+    ),
 ];
 
 /// The two leaves of 17 keys: the first has the places to 7.
@@ -282,7 +341,7 @@ static LONG_PART: [Row; 1] = [Row {
         Bytes(b"end\n"),
     ],
     status: 2,
-    err: b"line 40 refused\n",
+    err: b"line 40 refused\nfrom it on the lines are no run of the script\n",
     ..SERVED
 }];
 
@@ -308,7 +367,7 @@ static PARTS: [Row; 2] = [
             Bytes(b"get 7\nscan 7 7 1\n"),
         ],
         status: 2,
-        err: b"line 1028 refused\n",
+        err: b"line 1028 refused\nthe PARTS of the script are more than 65536 together\n",
         ..SERVED
     },
 ];
@@ -366,7 +425,7 @@ static FIT: [Row; 2] = [
         words: &[RUN],
         input: &[Bytes(b"script 3\ncaller\nscan 5 5 1\nput\n")],
         status: 2,
-        err: b"line 4 refused\n",
+        err: b"line 4 refused\na word is missing at its end\n",
         ..SERVED
     },
 ];

@@ -20,12 +20,21 @@ const RUNS: [(&[u8], &[u8]); 3] = [
 
 /// Scripts, and what is said of them.
 const REFUSALS: [(&[u8], &[u8]); 4] = [
-    (b"caller\nadd 5 1\n", b"line 2 refused\n"),
-    (b"caller\nscript 2\n", b"line 2 refused\n"),
-    (b"script 9\n", b"line 1 refused\n"),
+    (
+        b"caller\nadd 5 1\n",
+        b"line 2 refused\nthe version of the script has no such line\n",
+    ),
+    (
+        b"caller\nscript 2\n",
+        b"line 2 refused\nonly the first line says a version: script 2, script 3 or script 4\n",
+    ),
+    (
+        b"script 9\n",
+        b"line 1 refused\nonly the first line says a version: script 2, script 3 or script 4\n",
+    ),
     (
         b"script 2\ncaller\nput 1 340282366920938463463374607431768211456\n",
-        b"line 3 refused\n",
+        b"line 3 refused\na key or a value is too great, or PARTS is not 1 to 64\n",
     ),
 ];
 
@@ -86,7 +95,7 @@ static ASKING: [Row; 2] = [
         words: &[RUN],
         input: &[Bytes(b"script 2\n"), Times(1025, b"caller\nget 7\n")],
         status: 2,
-        err: b"line 2050 refused\n",
+        err: b"line 2050 refused\nit is one caller more than the version of the script allows\n",
         ..SERVED
     },
 ];

@@ -77,11 +77,11 @@ impl Random {
 
 fn make(caller: &mut Caller, call: Call) -> Line {
     let reply = match call {
-        Call::Put(key, value) => caller.insert(key, value),
+        Call::Put(key, value) => caller.put(key, value),
         Call::Get(key) => Ok(caller.get(key)),
-        Call::Del(key) => Ok(caller.remove(key)),
+        Call::Del(key) => Ok(caller.del(key)),
         Call::Add(key, value) => caller.add(key, value),
-        Call::Swap(key, old, new) => Ok(caller.replace(key, old, new)),
+        Call::Swap(key, old, new) => Ok(caller.swap(key, old, new)),
     };
     Line { number: caller.number().expect("a call was made"), reply }
 }
@@ -114,7 +114,7 @@ fn text(scripts: &[Vec<Call>], lines: &[Vec<Line>], map: &[Line]) -> Result<Stri
 
 fn main() -> Result<(), Box<dyn Error>> {
     let first = std::env::args().nth(1).map_or(Ok(1), |word| word.parse::<u64>())?;
-    let structure = Structure::ALL[(first % 4) as usize];
+    let structure = Structure::ALL[(first % 6) as usize];
     let mut random = Random(first);
     let mut scripts: Vec<Vec<Call>> = (0..CALLERS).map(|_| (0..CALLS).map(|_| random.call()).collect()).collect();
     let dictionary = Dictionary::open_as(structure, NODES, CALLERS)?;

@@ -26,11 +26,11 @@ impl Map for guttertide::Caller {
     }
 
     fn insert(&mut self, key: u64, value: u128) {
-        guttertide::Caller::insert(self, key, value).expect("there are nodes enough");
+        guttertide::Caller::put(self, key, value).expect("there are nodes enough");
     }
 
     fn remove(&mut self, key: u64) {
-        guttertide::Caller::remove(self, key);
+        guttertide::Caller::del(self, key);
     }
 }
 

@@ -15,22 +15,22 @@
 //!   that was forked while there were several threads: what would break this is unsafe code of the program.
 #![allow(unsafe_code)]
 
-use crate::raw::{self, KS_PART, ks_answer, ks_caller, ks_pair, ks_part};
+use crate::raw::{self, GUTTERTIDE_PART, guttertide_answer, guttertide_handle, guttertide_pair, guttertide_part};
 
 /// One call, with its key and its values.
 #[derive(Clone, Copy)]
 pub(crate) enum Call {
     Get { key: u64 },
-    Insert { key: u64, value: u128 },
+    Put { key: u64, value: u128 },
     Add { key: u64, value: u128 },
-    Replace { key: u64, old: u128, new: u128 },
-    Remove { key: u64 },
+    Swap { key: u64, before: u128, after: u128 },
+    Del { key: u64 },
 }
 
 /// One caller of a dictionary, or none. Dropping it closes it.
 #[repr(transparent)]
 #[derive(Debug)]
-pub(crate) struct Handle(ks_caller);
+pub(crate) struct Handle(guttertide_handle);
 
 // SAFETY: a handle may pass from thread to thread (see above). It is not `Sync`: nothing can be done by `&Handle`.
 unsafe impl Send for Handle {}
@@ -38,47 +38,59 @@ unsafe impl Send for Handle {}
 impl Handle {
     /// Returns a handle that is not open.
     pub(crate) const fn closed() -> Handle {
-        Handle(raw::KS_NO_CALLER)
+        Handle(raw::GUTTERTIDE_NO_HANDLE)
     }
 
     /// Opens a dictionary of this structure and number of nodes, with a caller for each of these handles. Returns the
     /// library's code.
     pub(crate) fn open(structure: u32, nodes: u32, handles: &mut [Handle]) -> u32 {
-        // SAFETY: `Handle` is a `ks_caller` in memory, and the slice has this number of them, which nobody else has.
-        unsafe { raw::ks_c_open(structure, nodes, handles.as_mut_ptr().cast::<ks_caller>(), handles.len()) }
+        // SAFETY: `Handle` is a `guttertide_handle` in memory, and the slice has this number of them, which nobody else has.
+        unsafe {
+            raw::guttertide_c_open(structure, nodes, handles.as_mut_ptr().cast::<guttertide_handle>(), handles.len())
+        }
+    }
+
+    /// The version of the library.
+    pub(crate) fn version() -> u32 {
+        // SAFETY: it takes nothing, and reads nothing of the program.
+        unsafe { raw::guttertide_c_version() }
     }
 
     /// Makes a call once. Returns the library's code.
-    pub(crate) fn call(&mut self, call: Call, answer: &mut ks_answer) -> u32 {
+    pub(crate) fn call(&mut self, call: Call, answer: &mut guttertide_answer) -> u32 {
         let at = &mut self.0;
         // SAFETY: nobody else has the handle or the answer during the call. It is one that the library wrote, or null.
         unsafe {
             match call {
-                Call::Get { key } => raw::ks_c_get(at, key, answer),
-                Call::Insert { key, value } => raw::ks_c_put(at, key, low(value), high(value), answer),
-                Call::Add { key, value } => raw::ks_c_add(at, key, low(value), high(value), answer),
-                Call::Replace { key, old, new } => {
-                    raw::ks_c_swap(at, key, low(old), high(old), low(new), high(new), answer)
+                Call::Get { key } => raw::guttertide_c_get(at, key, answer),
+                Call::Put { key, value } => raw::guttertide_c_put(at, key, low(value), high(value), answer),
+                Call::Add { key, value } => raw::guttertide_c_add(at, key, low(value), high(value), answer),
+                Call::Swap { key, before, after } => {
+                    raw::guttertide_c_swap(at, key, low(before), high(before), low(after), high(after), answer)
                 }
-                Call::Remove { key } => raw::ks_c_del(at, key, answer),
+                Call::Del { key } => raw::guttertide_c_del(at, key, answer),
             }
         }
     }
-}
 
-impl Handle {
     /// Lists a part of a scan once. Returns the library's code.
-    pub(crate) fn scan(&mut self, low: u64, last: u64, pairs: &mut [ks_pair; KS_PART], part: &mut ks_part) -> u32 {
+    pub(crate) fn scan(
+        &mut self,
+        low: u64,
+        last: u64,
+        pairs: &mut [guttertide_pair; GUTTERTIDE_PART],
+        part: &mut guttertide_part,
+    ) -> u32 {
         // SAFETY: nobody else has the handle, the pairs or the part during the call. The handle is one that the library
         // wrote, or null, and the array has this number of pairs.
-        unsafe { raw::ks_c_scan(&mut self.0, low, last, pairs.as_mut_ptr(), pairs.len(), part) }
+        unsafe { raw::guttertide_c_scan(&mut self.0, low, last, pairs.as_mut_ptr(), pairs.len(), part) }
     }
 }
 
 impl Drop for Handle {
     fn drop(&mut self) {
         // SAFETY: nobody else has the handle. It is one that the library wrote, or null, and then this does nothing.
-        unsafe { raw::ks_c_close(&mut self.0) };
+        unsafe { raw::guttertide_c_close(&mut self.0) };
     }
 }
 

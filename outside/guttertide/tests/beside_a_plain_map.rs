@@ -1,6 +1,6 @@
 //! Random calls of one thread and of many, beside a `BTreeMap`: the calls in the order of their numbers are its calls.
 
-use guttertide::{Caller, Dictionary, Full, Later, OpenError, Structure, TryInsertError};
+use guttertide::{Caller, Dictionary, Full, Later, OpenError, Structure, TryPutError};
 use std::collections::BTreeMap;
 use std::sync::mpsc;
 use std::thread;
@@ -30,10 +30,10 @@ impl Call {
     fn wait(self, caller: &mut Caller) -> Made {
         let reply = match self {
             Call::Get(key) => Ok(caller.get(key)),
-            Call::Insert(key, value) => caller.insert(key, value),
+            Call::Insert(key, value) => caller.put(key, value),
             Call::Add(key, value) => caller.add(key, value),
-            Call::Replace(key, old, new) => Ok(caller.replace(key, old, new)),
-            Call::Remove(key) => Ok(caller.remove(key)),
+            Call::Replace(key, old, new) => Ok(caller.swap(key, old, new)),
+            Call::Remove(key) => Ok(caller.del(key)),
         };
         self.made(caller, reply)
     }
@@ -42,10 +42,10 @@ impl Call {
     fn attempt(self, caller: &mut Caller) -> Result<Made, Later> {
         let reply = match self {
             Call::Get(key) => Ok(caller.try_get(key)?),
-            Call::Insert(key, value) => split(caller.try_insert(key, value))?,
+            Call::Insert(key, value) => split(caller.try_put(key, value))?,
             Call::Add(key, value) => split(caller.try_add(key, value))?,
-            Call::Replace(key, old, new) => Ok(caller.try_replace(key, old, new)?),
-            Call::Remove(key) => Ok(caller.try_remove(key)?),
+            Call::Replace(key, old, new) => Ok(caller.try_swap(key, old, new)?),
+            Call::Remove(key) => Ok(caller.try_del(key)?),
         };
         Ok(self.made(caller, reply))
     }
@@ -70,11 +70,11 @@ impl Call {
     }
 }
 
-fn split(reply: Result<Option<u128>, TryInsertError>) -> Result<Reply, Later> {
+fn split(reply: Result<Option<u128>, TryPutError>) -> Result<Reply, Later> {
     match reply {
         Ok(found) => Ok(Ok(found)),
-        Err(TryInsertError::Full(full)) => Ok(Err(full)),
-        Err(TryInsertError::Later(later)) => Err(later),
+        Err(TryPutError::Full(full)) => Ok(Err(full)),
+        Err(TryPutError::Later(later)) => Err(later),
     }
 }
 
@@ -184,12 +184,17 @@ fn eight_threads_that_do_not_wait() -> Result<(), OpenError> {
     Structure::ALL.into_iter().try_for_each(do_not_wait_on_threads)
 }
 
+/// Whether the searches of a structure may restart.
+fn gives_up(structure: Structure) -> bool {
+    matches!(structure, Structure::GiveUpTree | Structure::GiveUpWideTree)
+}
+
 /// Whether the calls of a structure may be put off like this, in a dictionary of 1024 nodes and 8 callers.
 fn may_be_put_off(structure: Structure, later: Later) -> bool {
     match later {
         Later::Busy { node, holder } => node < 1024 && holder < 8,
-        Later::Moved { node } => node < 1024 && structure == Structure::GiveUpTree,
-        Later::Far => matches!(structure, Structure::GiveUpTree | Structure::BTree),
+        Later::Moved { node } => node < 1024 && gives_up(structure),
+        Later::Far => gives_up(structure) || structure == Structure::BTree,
     }
 }
 
@@ -217,15 +222,15 @@ fn do_not_wait_on_threads(structure: Structure) -> Result<(), OpenError> {
 fn a_full_dictionary_stays_as_it_is() -> Result<(), OpenError> {
     let dictionary = Dictionary::open(4, 1)?;
     let mut caller = dictionary.caller().expect("it has one");
-    let count = (0..).find(|&key| caller.insert(key, key.into()) == Err(Full)).expect("four nodes are soon full");
+    let count = (0..).find(|&key| caller.put(key, key.into()) == Err(Full)).expect("four nodes are soon full");
     assert_eq!(caller.number(), Some(count));
     assert!((8..=64).contains(&count));
-    assert_eq!(caller.try_insert(count, 0), Err(TryInsertError::Full(Full)));
+    assert_eq!(caller.try_put(count, 0), Err(TryPutError::Full(Full)));
     assert_eq!(caller.add(count, 0), Err(Full));
     assert!((0..count).all(|key| caller.get(key) == Some(key.into())));
-    assert_eq!((caller.get(count), caller.insert(0, 1), caller.add(0, 2)), (None, Ok(Some(0)), Ok(Some(1))));
-    assert_eq!(caller.remove(count - 1), Some((count - 1).into()));
-    assert_eq!(caller.insert(count, 7), Ok(None));
+    assert_eq!((caller.get(count), caller.put(0, 1), caller.add(0, 2)), (None, Ok(Some(0)), Ok(Some(1))));
+    assert_eq!(caller.del(count - 1), Some((count - 1).into()));
+    assert_eq!(caller.put(count, 7), Ok(None));
     Ok(())
 }
 
@@ -237,7 +242,7 @@ fn an_eighth_of_the_keys_and_half_as_much_again_are_enough_nodes() -> Result<(),
     for order in orders {
         let dictionary = Dictionary::open((KEYS / 8 + KEYS / 16) as u32, 1)?;
         let mut caller = dictionary.caller().expect("it has one");
-        assert!((0..KEYS).all(|at| caller.insert(order(at), at.into()) == Ok(None)));
+        assert!((0..KEYS).all(|at| caller.put(order(at), at.into()) == Ok(None)));
         assert!((0..KEYS).all(|at| caller.get(order(at)) == Some(at.into())));
     }
     Ok(())
@@ -265,7 +270,9 @@ fn a_call_comes_after_those_that_returned_before_it() -> Result<(), OpenError> {
                 });
             }
             let mut caller = dictionary.caller().expect("a third caller");
-            calls(3, 48).take(20_000).for_each(|call| drop(call.wait(&mut caller)));
+            calls(3, 48).take(20_000).for_each(|call| {
+                call.wait(&mut caller);
+            });
         });
     }
     Ok(())
@@ -300,11 +307,11 @@ fn callers_outlive_their_dictionary() -> Result<(), OpenError> {
     assert_eq!(callers.len(), 2);
     drop(dictionary);
     let mut last = callers.pop().expect("two callers");
-    assert_eq!(last.insert(3, u128::MAX), Ok(None));
+    assert_eq!(last.put(3, u128::MAX), Ok(None));
     let mut first = callers.pop().expect("two callers");
     let found = thread::spawn(move || first.get(3)).join().expect("the thread ends");
     assert_eq!(found, Some(u128::MAX));
-    assert_eq!(last.remove(3), found);
+    assert_eq!(last.del(3), found);
     Ok(())
 }
 

@@ -1,8 +1,7 @@
-use Rattle.std.proofs.Common.{◌∙◌, Some, ap, sym, subst}
+use Rattle.std.proofs.Common.{Some, refl, subst, sym}
 use Rattle.ks_c.specs.Calls.{HasCalled}
 use Rattle.ks_c.proofs.call.Goals as goal
 
 pub returns-in-Some : goal.returns-in-Some
 returns-in-Some c =
-    let before = ap (λ h. h.inside) (sym c.replace.ensures.value) ∙ c.in-Some.ensures ∙ ap Some (sym c.deref_mut.ensures.value) in
-    subst (λ o. HasCalled c.args.call c.args.key o c.of.result.inside c.call-code.result c.call-code.new.out) (sym before) (c.call-code.new.self, c.of.ensures, c.call-code.ensures)
+    subst (λ o. HasCalled c.args.call c.args.key o (Some c.call.new.self) c.call.result c.call.new.out) (sym c.in-Some.ensures.caller) (c.call.new.self, refl, c.call.ensures)

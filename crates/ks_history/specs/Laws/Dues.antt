@@ -5,7 +5,7 @@ use mathlib.Core.Logic.{dite}
 use native.Mathlib.Decide.{ℕ_discrete}
 use Rattle.ks_keysets.specs.declared.NodeState.{NodeState}
 use Rattle.ks_keysets.specs.Keyset.{live_record, record_at, IsLive, InKeyset}
-use Rattle.ks_keysets.specs.Layout.{Layout, list_layout, bplus_layout, hash_layout, bst_layout}
+use Rattle.ks_keysets.specs.Layout.{Layout, list_layout, bplus_layout, hash_layout, bst_layout, wide_layout}
 use Rattle.ks_history.specs.declared.Op.{Op}
 use Rattle.ks_history.specs.declared.Op.TheVariants.{Get, Put, Del, Add, Swap, Part, Move}
 use Rattle.ks_history.specs.declared.Reply.TheVariants.{Full}
@@ -74,6 +74,7 @@ may_grow_along list_layout g k node place same keyset grows = grows
 may_grow_along bplus_layout g k node place same keyset grows = (grows.0, grows.1, same ∙ grows.2, grows.3)
 may_grow_along hash_layout g k node place same keyset grows = (grows.0, grows.1, same ∙ grows.2, grows.3)
 may_grow_along bst_layout g k node place same keyset grows = (keyset grows.0, grows.1, same ∙ grows.2, grows.3)
+may_grow_along (wide_layout pairs children) g k node place same keyset grows = (grows.0, grows.1, same ∙ grows.2, grows.3)
 
 pub live_but_while_waiting : (layout : Layout) (place c : ℕ) (g h : List Event) → GrowsByOthers c g h → AreInTurn h → (b : HoldsLiveBut layout place g c) → turn_after g b.one ≡ held c
     → (InKeyset (graph_after g) b.node place → InKeyset (graph_after h) b.node place) → HoldsLiveBut layout place h c

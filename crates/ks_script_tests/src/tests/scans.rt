@@ -144,7 +144,7 @@ fn a_part_of_16_pairs_is_read_and_written(rt: HostRuntime) -> Result<(), Fail> {
     let script = b"script 3\ncaller\nscan 0 18446744073709551615 64\n";
     assert!(rt; is_written_again(alloc, script, &long_part(alloc, 16)?)?);
     let text = joined(alloc, script, &long_part(alloc, 17)?)?;
-    assert!(rt; is_refused_in_check(alloc, &text, 6));
+    assert!(rt; is_refused_in_check(alloc, &text, 6, Reason::NotTheRun));
     Ok(())
 }
 
@@ -158,7 +158,10 @@ fn are_refused_scans(
         let mut text = b"script 3\ncaller\nscan 10 20 2\nrun\ncaller 0\n".to_vec(alloc)?;
         text.extend_from_slice(lines.as_bytes())?;
         text.extend_from_slice(b"\nmap\nend\n")?;
-        assert!(rt; is_refused_in_check(alloc, &text, *line), "{lines:?}");
+        assert!(rt;
+            is_refused_in_check(alloc, &text, *line, Reason::NotTheRun),
+            "{lines:?}"
+        );
     }
     Ok(())
 }
@@ -204,9 +207,17 @@ const NO_PARTS: [(&str, u64); 10] = [
 ];
 
 /// A scan that is cut off, and a part where the reply to a call is due.
-const CUT_OR_OF_A_CALL: [(&str, u64); 2] = [
-    ("script 3\ncaller\nscan 10 20 2\nrun\ncaller 0\n0 15\n", 7),
-    ("script 3\ncaller\nget 1\nrun\ncaller 0\n0 1 1 1\n", 6),
+const CUT_OR_OF_A_CALL: [(&str, u64, Reason); 2] = [
+    (
+        "script 3\ncaller\nscan 10 20 2\nrun\ncaller 0\n0 15\n",
+        7,
+        Reason::NotTheRun,
+    ),
+    (
+        "script 3\ncaller\nget 1\nrun\ncaller 0\n0 1 1 1\n",
+        6,
+        Reason::NotTheRun,
+    ),
 ];
 
 #[test]
@@ -223,9 +234,10 @@ const MOVES: [(&str, &str); 1] = [(
 )];
 
 /// A put that kept both.
-const KEPT: [(&str, u64); 1] = [(
+const KEPT: [(&str, u64, Reason); 1] = [(
     "script 4\ncaller\nput 1 10\nrun\ncaller 0\n0 kept\nmap\nend\n",
     6,
+    Reason::NotTheRun,
 )];
 
 #[test]

@@ -22,7 +22,7 @@ callers-preserved c =
         parts = omega (arith, asked, read.parts, before.parts, before.is.parts);
         each = all_push (AllByRecursion (IsLineOf front.version)) all lines before.is.each read.each;
       };
-      reads = next_read front.version c.args.bytes.now front.rest.now c.in-Some.more.now c.in_ok-lines.behind.now all lines front.lines (front.lines + (1 + c.len-in-callers.result)) before.reads c.in-Some.ensures.some read.reads (omega arith);
+      reads = next_read front.version c.args.bytes.now front.rest.now c.in-Some.more.now c.in_ok-lines.behind.now all lines front.lines (front.lines + (1 + c.len-in-callers-2.result)) before.reads c.in-Some.ensures.some read.reads (omega arith);
       few = omega (arith, many);
       calls = omega (arith, sum);
       parts = left;

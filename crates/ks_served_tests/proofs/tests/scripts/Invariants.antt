@@ -1,6 +1,6 @@
-use Rattle.std.proofs.Common.{◌≡◌, length, map, false}
+use Rattle.std.proofs.Common.{◌≡◌, length, false}
 use Rattle.ks_lines.specs.Asked.{AreServedLines}
 use Rattle.ks_served_tests.proofs.tests.scripts.Given as goal
 
 abbrev pub invariant-loop-first : goal.invariant-loop-first
-invariant-loop-first l = (length l.scripts.items ≡ l.first) × AreServedLines false false (map (λ v. v.items) l.scripts.items)
+invariant-loop-first l = (length l.each.items ≡ l.first) × AreServedLines false false l.each.items

@@ -1,5 +1,5 @@
 use Rattle.std.proofs.Common.{refl, subst, sym}
-use Rattle.ks_c.specs.declared.caller.Caller.TheVariants.{BLinkTree, GiveUpTree, BTree, LinkHashTable}
+use Rattle.ks_c.specs.declared.caller.Caller.TheVariants.{BLinkTree, GiveUpTree, BTree, LinkHashTable, BLinkWideTree, GiveUpWideTree}
 use Rattle.ks_c.specs.Calls.{Called}
 use Rattle.ks_c.proofs.caller.Caller.call.Goals as goal
 
@@ -18,3 +18,11 @@ returns-in-BTree c =
 pub returns-in-LinkHashTable : goal.returns-in-LinkHashTable
 returns-in-LinkHashTable c =
     subst (λ b. Called c.args.call c.args.key b (LinkHashTable c.along_links-in-LinkHashTable.new.caller) c.along_links-in-LinkHashTable.result c.along_links-in-LinkHashTable.new.out) (sym c.in-LinkHashTable.is) (c.along_links-in-LinkHashTable.new.caller, refl, c.along_links-in-LinkHashTable.ensures)
+
+pub returns-in-BLinkWideTree : goal.returns-in-BLinkWideTree
+returns-in-BLinkWideTree c =
+    subst (λ b. Called c.args.call c.args.key b (BLinkWideTree c.along_links-in-BLinkWideTree.new.caller) c.along_links-in-BLinkWideTree.result c.along_links-in-BLinkWideTree.new.out) (sym c.in-BLinkWideTree.is) (c.along_links-in-BLinkWideTree.new.caller, refl, c.along_links-in-BLinkWideTree.ensures)
+
+pub returns-in-GiveUpWideTree : goal.returns-in-GiveUpWideTree
+returns-in-GiveUpWideTree c =
+    subst (λ b. Called c.args.call c.args.key b (GiveUpWideTree c.by_giving_up-in-GiveUpWideTree.new.caller) c.by_giving_up-in-GiveUpWideTree.result c.by_giving_up-in-GiveUpWideTree.new.out) (sym c.in-GiveUpWideTree.is) (c.by_giving_up-in-GiveUpWideTree.new.caller, refl, c.by_giving_up-in-GiveUpWideTree.ensures)

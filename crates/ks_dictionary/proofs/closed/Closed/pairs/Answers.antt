@@ -3,10 +3,8 @@ use Rattle.std.specs.List.Sorted.{IsPermutation}
 use Rattle.std.proofs.lemmas.List.Sorted.{IsNonDecreasingBy-from_sort_by_key}
 use Rattle.ks_history.specs.Map.{map_after}
 use Rattle.ks_history.specs.Trace.{calls_of, graph_after}
-use Rattle.ks_dictionary.specs.Called.{keyed}
 use Rattle.ks_dictionary.specs.Ended.{history}
-use Rattle.ks_dictionary.proofs.Joined.{written}
-use Rattle.ks_dictionary.proofs.Keyed.{keyed_more, small_more, all_keyed, are_small, listed_by_key}
+use Rattle.ks_dictionary.proofs.Keyed.{keyed, written, keyed_more, small_more, all_keyed, are_small, listed_by_key}
 use Rattle.ks_dictionary.proofs.Stored.{stored_at_places}
 use Rattle.ks_dictionary.proofs.closed.Closed.pairs.Goals as goal
 

@@ -1,5 +1,5 @@
 use Rattle.std.proofs.Common.{◌≡◌, ◌<◌, ◌^◌, map, take, drop, All}
-use Rattle.ks_dictionary.specs.Called.{keyed}
+use Rattle.ks_dictionary.proofs.Keyed.{keyed}
 use Rattle.ks_dictionary.proofs.closed.Closed.pairs.Given as goal
 
 abbrev pub invariant-loop-entry : goal.invariant-loop-entry

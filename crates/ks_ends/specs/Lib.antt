@@ -1,0 +1,10 @@
+pub mod Message
+pub mod Serve
+pub mod Stop
+pub mod Make
+pub mod Parts
+pub mod Printing
+pub mod Request
+pub mod Begun
+pub mod Left
+pub mod Laws

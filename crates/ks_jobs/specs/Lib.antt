@@ -1,0 +1,4 @@
+pub mod About
+pub mod Beginning
+pub mod Rooms
+pub mod Work

@@ -1,0 +1,7 @@
+use Rattle.std.proofs.Common.{rules}
+use Rattle.ks_node.specs.Keyed.{Ascends}
+use Rattle.ks_wide.specs.Laws.Fits.{at_branch}
+use Rattle.ks_wide.proofs.parts.Parts.child_after.Goals as goal
+
+pub after-requires : goal.after-requires
+after-requires g c = (search rules, at_branch (Ascends (λ s. s.low)) c.in-Inner.is c.requires)

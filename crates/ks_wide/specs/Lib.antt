@@ -1,0 +1,5 @@
+pub mod Widths
+pub mod Started
+pub mod Wide
+pub mod Parts
+pub mod Laws

@@ -1,0 +1,4 @@
+pub mod Pairings
+pub mod Words
+pub mod PairingWords
+pub mod Laws
